@@ -1,0 +1,28 @@
+-- What a field operation open to callers answers. Document 01: "a number not below p (for a single row or a field operation, place is
+-- the index of the lowest such number)", refusal 14. Assumes nothing.
+use Prim.Native.Nat.{ℕ}
+use mathlib.Core.Bool.{cond}
+use lib.Dec.{ltb}
+use Rattle.answer.specs.declared.Answer.{Answer}
+use Rattle.answer.specs.Numbers.{accepted, refused}
+use Rattle.field.specs.Field.{p, addP, subP, mulP}
+use Rattle.field.specs.declared.FieldAnswer.{FieldAnswer}
+use Rattle.field.specs.declared.FieldAnswer.the-variants.{Element, NotElement}
+
+-- v, unless one of the two inputs is no element
+unfoldable pub fieldAnswer : ℕ → ℕ → ℕ → FieldAnswer
+fieldAnswer a b v = cond (ltb a p) (cond (ltb b p) (Element v) (NotElement 1)) (NotElement 0)
+
+unfoldable pub addAnswer : ℕ → ℕ → FieldAnswer
+addAnswer a b = fieldAnswer a b (addP a b)
+
+unfoldable pub subAnswer : ℕ → ℕ → FieldAnswer
+subAnswer a b = fieldAnswer a b (subP a b)
+
+unfoldable pub mulAnswer : ℕ → ℕ → FieldAnswer
+mulAnswer a b = fieldAnswer a b (mulP a b)
+
+-- document 01's number, place and value of each case
+abbrev pub fieldNumbers : FieldAnswer → Answer
+fieldNumbers (Element v) = accepted v
+fieldNumbers (NotElement place) = refused 14 place

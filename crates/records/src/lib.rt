@@ -1,0 +1,6 @@
+pub enum TableAnswer {
+    Made { rows: usize },
+    TooManyRecords,
+    BadRecord { place: usize },
+    BufferShort,
+}
