@@ -1,3 +1,4 @@
 pub mod Field
 pub mod Constants
+pub mod Carry
 pub mod Answers

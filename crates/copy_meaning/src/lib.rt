@@ -1,0 +1,1 @@
+// What a copy row that passes its checks says in plain numbers.

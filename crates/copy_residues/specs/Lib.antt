@@ -1,0 +1,3 @@
+pub mod Range
+pub mod Residues
+pub mod RowCheck

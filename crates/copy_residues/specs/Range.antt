@@ -1,0 +1,32 @@
+-- What a copy row's columns may hold. Document 01: "In range: all 41 numbers elements, VALUE below 256, WL columns words, HL columns
+-- halves." Assumes nothing.
+use Prim.Native.Nat.{ℕ, _^_}
+use mathlib.Core.List.{List, _++_}
+use lib.Dec.{leb}
+use lib.ListN.{length, getD, replicate}
+use Rattle.field.specs.Field.{p}
+use Rattle.records.specs.Lists.{first}
+use Rattle.copy_row.specs.Columns.{at, COLUMNS}
+
+-- for each column the least number that is out of range: words, bytes, words and halves in the order of the columns, then nine
+-- columns that may be any element
+unfoldable pub columnLimits : List ℕ
+columnLimits =
+    replicate 2 (2 ^ 32)
+    ++ replicate 8 256
+    ++ replicate 2 (2 ^ 32)
+    ++ replicate 4 (2 ^ 16)
+    ++ replicate 2 (2 ^ 32)
+    ++ replicate 4 (2 ^ 16)
+    ++ replicate 2 (2 ^ 32)
+    ++ replicate 4 (2 ^ 16)
+    ++ replicate 4 (2 ^ 16)
+    ++ replicate 9 p
+
+-- the lowest number of a list that is no element, or the list's length
+unfoldable pub firstLarge : List ℕ → ℕ
+firstLarge row = first (λ c. leb p (at row c)) 0 (length row)
+
+-- the lowest column out of range, or 41
+unfoldable pub firstOut : List ℕ → ℕ
+firstOut row = first (λ c. leb (getD columnLimits c 0) (at row c)) 0 COLUMNS

@@ -1,0 +1,23 @@
+-- What one copy row is found to be: document 01's checks 14, 15 and 16 in their order. Assumes nothing.
+use Prim.Native.Nat.{ℕ}
+use mathlib.Core.Bool.{cond, not}
+use mathlib.Core.List.{List}
+use lib.Dec.{ltb, eqb}
+use lib.ListN.{length}
+use Rattle.records.specs.Lists.{first}
+use Rattle.copy_row.specs.Columns.{COLUMNS}
+use Rattle.copy_residues.specs.Range.{firstLarge, firstOut}
+use Rattle.copy_residues.specs.Residues.{residue, RESIDUES}
+use Rattle.copy_residues.specs.declared.RowFault.{RowFault}
+use Rattle.copy_residues.specs.declared.RowFault.the-variants.{Fine, NotElement, OutOfRange, NotZero}
+
+-- the lowest residue that is not 0, or 40
+unfoldable pub firstResidue : ℕ → List ℕ → ℕ
+firstResidue gap row = first (λ i. not (eqb (residue gap row i) 0)) 0 RESIDUES
+
+-- the first check that fails on a row: all 41 numbers are judged by 14 before any is judged by 15
+unfoldable pub rowFault : ℕ → List ℕ → RowFault
+rowFault gap row =
+    cond (ltb (firstLarge row) (length row)) NotElement
+    (cond (ltb (firstOut row) COLUMNS) OutOfRange
+    (cond (ltb (firstResidue gap row) RESIDUES) (NotZero (firstResidue gap row)) Fine))
