@@ -1,7 +1,8 @@
 -- Lists that loops fill and search: what is stored where, what is joined, the lowest index that meets a test. Nothing here names a
 -- width, a table or a limit. Assumes nothing.
-use Prim.Native.Nat.{ℕ, zero, suc, _+_}
-use mathlib.Core.Bool.{Bool, cond}
+use mathlib.Core.Path.{_≡_}
+use Prim.Native.Nat.{ℕ, zero, suc, _+_, _≤_, _<_}
+use mathlib.Core.Bool.{Bool, true, false, cond}
 use mathlib.Core.List.{List, [], _∷_, _++_}
 use lib.ListN.{set}
 
@@ -28,3 +29,10 @@ counted test (suc n) = cond (test n) (counted test n + 1) (counted test n)
 unfoldable pub first : (ℕ → Bool) → ℕ → ℕ → ℕ
 first test k zero = k
 first test k (suc m) = cond (test k) k (first test (k + 1) m)
+
+-- r is the lowest of the m numbers from k on that meets the test, or k + m where none does; proofs/ shows it of `first test k m`
+pub record Lowest (test : ℕ → Bool) (k m r : ℕ) : Type 0 where
+  pub least : k ≤ r
+  pub most : r ≤ k + m
+  pub meets : r < k + m → test r ≡ true
+  pub before : (j : ℕ) → k ≤ j → j < r → test j ≡ false

@@ -1,0 +1,5 @@
+pub mod Store
+pub mod Flat
+pub mod First
+pub mod Records
+pub mod RowCount
