@@ -1,4 +1,4 @@
-// Internal to the workspace, not open to callers: one number of a copy row. Assumes nothing.
+// Internal to the crate: one number of a copy row. Assumes nothing.
 ghost use Prim.Native.Nat.{_<_};
 ghost use Rattle.copy_row.specs.Columns.{at, COLUMNS};
 ghost use Rattle.copy_residues.specs.Cells.{Elements, Is};

@@ -1,6 +1,6 @@
 // Internal to the workspace, not open to callers: the checks of one copy row, 14, 15 and 16, in document 01's order. Assumes nothing.
 use crate::RowFault;
-use crate::columns::NUM_COLUMNS;
+use crate::cols;
 use crate::range::first_large;
 use crate::range::first_out;
 use crate::residues::NUM_RESIDUES;
@@ -16,10 +16,10 @@ pub fn row_fault(gap: u64, row: &[u64]) -> RowFault
     requires { ⌜ (gap < 2 ^ 32) × (length (now row) ≡ COLUMNS) ⌝ }
     ensures { λ r. ⌜ r ≡ rowFault gap (now (row .entry)) ⌝ }
 {
-    if first_large(row) < NUM_COLUMNS {
+    if first_large(row) < cols::NUM_COLUMNS {
         return RowFault::NotElement;
     }
-    if first_out(row) < NUM_COLUMNS {
+    if first_out(row) < cols::NUM_COLUMNS {
         return RowFault::OutOfRange;
     }
     let index = first_residue(gap, row);

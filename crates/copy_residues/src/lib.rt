@@ -1,8 +1,9 @@
 // The 40 residues of a copy row, open to callers one at a time: any gap, any slice of numbers and any residue number. Document 01: "The 40
 // residues are those of `CopyConstraints`, gap for `DMA_MEMSET_GAP`." Assumes nothing.
-pub mod cells;
-pub mod columns;
-pub mod equations;
+mod carries;
+mod cells;
+pub mod cols;
+mod equations;
 pub mod faults;
 pub mod parts;
 pub mod range;
@@ -11,7 +12,6 @@ pub mod residues;
 use answer::Answer;
 use answer::accept;
 use answer::refuse;
-use columns::NUM_COLUMNS;
 use parts::parts_of;
 use range::first_large;
 use residues::NUM_RESIDUES;
@@ -53,11 +53,11 @@ pub fn residue(gap: u64, row: &[u64], number: u64) -> ResidueAnswer
     if NUM_RESIDUES <= number {
         return ResidueAnswer::NoResidue;
     }
-    if row.len() != NUM_COLUMNS {
+    if row.len() != cols::NUM_COLUMNS {
         return ResidueAnswer::NotRow;
     }
     let large = first_large(row);
-    if large < NUM_COLUMNS {
+    if large < cols::NUM_COLUMNS {
         return ResidueAnswer::NotElement {
             place: large as u64,
         };

@@ -1,6 +1,6 @@
 // Internal to the workspace, not open to callers: the range of a copy row's columns. Document 01: "In range: all 41 numbers elements,
 // VALUE below 256, WL columns words, HL columns halves." A row is a slice of its own. Assumes nothing.
-use crate::columns::NUM_COLUMNS;
+use crate::cols;
 use field::element::P;
 ghost use mathlib.Core.Path.{_≡_};
 ghost use lib.ListN.{length};
@@ -80,7 +80,7 @@ pub fn first_out(row: &[u64]) -> usize
 {
     let limits = LIMITS;
     let mut c = 0;
-    while c < NUM_COLUMNS {
+    while c < cols::NUM_COLUMNS {
         if limits[c] <= row[c] {
             return c;
         }

@@ -1,14 +1,5 @@
 // Internal to the workspace, not open to callers: the 40 residues of a copy row by their numbers. Assumes nothing.
-use crate::columns::COUNT_0;
-use crate::columns::COUNT_1;
-use crate::columns::DST_0;
-use crate::columns::END;
-use crate::columns::FIRST;
-use crate::columns::IS_SET;
-use crate::columns::IS_WRITE;
-use crate::columns::MU;
-use crate::columns::SINGLE;
-use crate::columns::SRC_0;
+use crate::cols;
 use crate::equations;
 use crate::parts::Parts;
 use crate::parts::parts_of;
@@ -29,15 +20,15 @@ pub fn residue_with(row: &[u64], parts: Parts, i: u64) -> u64
     ensures { λ r. ⌜ r ≡ residue (parts .gap) (now (row .entry)) i ⌝ }
 {
     match i {
-        0 => equations::bit(row, FIRST),
-        1 => equations::bit(row, END),
-        2 => equations::bit(row, SINGLE),
-        3 => equations::bit(row, MU),
-        4 => equations::bit(row, IS_SET),
-        5 => equations::bit(row, IS_WRITE),
-        6 => equations::implies_mu(row, FIRST, END),
+        0 => equations::bit(row, cols::FIRST),
+        1 => equations::bit(row, cols::END),
+        2 => equations::bit(row, cols::SINGLE),
+        3 => equations::bit(row, cols::MU),
+        4 => equations::bit(row, cols::IS_SET),
+        5 => equations::bit(row, cols::IS_WRITE),
+        6 => equations::implies_mu(row, cols::FIRST, cols::END),
         7 => equations::one_hot(row),
-        8 => equations::implies_mu(row, IS_SET, IS_WRITE),
+        8 => equations::implies_mu(row, cols::IS_SET, cols::IS_WRITE),
         9 => equations::first_write(row),
         // src_incr, dst_incr: SRC_INCR is SRC + step, and DST_INCR is DST + step, but for multiples of 2^64. Without them the next row
         // could go on at any address.
@@ -55,16 +46,16 @@ pub fn residue_with(row: &[u64], parts: Parts, i: u64) -> u64
         20 => equations::set_gap_low(parts.gap, row),
         21 => equations::set_gap_high(parts.gap, row),
         22..=28 => equations::single_lane(row, (i - 19) as usize),
-        29 => equations::borrow_implies(row, parts.borrow, FIRST),
-        30 => equations::borrow_implies_zero(row, parts.borrow, COUNT_0),
-        31 => equations::borrow_implies_zero(row, parts.borrow, COUNT_1),
+        29 => equations::borrow_implies(row, parts.borrow, cols::FIRST),
+        30 => equations::borrow_implies_zero(row, parts.borrow, cols::COUNT_0),
+        31 => equations::borrow_implies_zero(row, parts.borrow, cols::COUNT_1),
         32 => equations::end_implies_upper(row, parts.borrow),
         33 => equations::end_implies_lower(row, parts.borrow, parts.step),
-        34 => equations::borrow_implies(row, parts.borrow, END),
+        34 => equations::borrow_implies(row, parts.borrow, cols::END),
         35 => equations::mu_com(row, parts.borrow),
         36 => equations::mu_com_wide(row),
-        37 => equations::no_wrap(row, parts.borrow, SRC_0, parts.src_high),
-        38 => equations::no_wrap(row, parts.borrow, DST_0, parts.dst_high),
+        37 => equations::no_wrap(row, parts.borrow, cols::SRC_0, parts.src_high),
+        38 => equations::no_wrap(row, parts.borrow, cols::DST_0, parts.dst_high),
         _ => equations::gap_no_wrap(parts.gap, row),
     }
 }

@@ -13,19 +13,19 @@ use Rattle.copy_residues.proofs.residue.Statement.{statement}
 use Rattle.copy_residues.proofs.residue.Tie as tie
 
 returns : tie.Need-returns
-returns c = ap residueNumbers (sym (gap-too-large _ _ _ (c .if1 .taken)))
+returns c = ap residueNumbers (sym (gap-too-large _ _ _ (omega arith)))
 
 returns-2 : tie.Need-returns-2
-returns-2 c = ap residueNumbers (sym (no-residue _ _ _ (c .before .if1 .left) (c .if2 .taken)))
+returns-2 c = ap residueNumbers (sym (no-residue _ _ _ (omega arith) (omega arith)))
 
 returns-3 : tie.Need-returns-3
-returns-3 c = ap residueNumbers (sym (not-row _ _ _ (c .before .before .if1 .left) (c .before .if2 .left) (c .if3 .taken)))
+returns-3 c = ap residueNumbers (sym (not-row _ _ _ (omega arith) (omega arith) (c .if3 .taken)))
 
 returns-4 : tie.Need-returns-4
 returns-4 c =
     ap residueNumbers
     (ap NotElement (c .before .first-large .ensures)
-    ∙ sym (not-element _ _ _ (c .before .before .before .before .if1 .left) (c .before .before .before .if2 .left) (c .before .before .if3 .left) (omega arith)))
+    ∙ sym (not-element _ _ _ (omega arith) (omega arith) (c .before .before .if3 .left) (omega arith)))
 
 parts-of-requires : tie.Need-parts-of-requires
 parts-of-requires c κs = (elements _ (c .before .before .if3 .left) (omega arith), omega arith)
@@ -40,7 +40,7 @@ returns-5 c =
     let number : ℕ = c .before .before .before .before .before .before .before .before .args .number in
     ap residueNumbers
     (ap Residue (c .residue-with .ensures ∙ ap (λ (gap : ℕ). residue gap row number) (c .before .parts-of .ensures .1))
-    ∙ sym (residue-answer _ _ _ (c .before .before .before .before .before .before .if1 .left) (c .before .before .before .before .before .if2 .left) (c .before .before .before .before .if3 .left) (omega arith)))
+    ∙ sym (residue-answer _ _ _ (omega arith) (omega arith) (c .before .before .before .before .if3 .left) (omega arith)))
 
 pub residue-spec : {M : Type 1} → statement M
 residue-spec =

@@ -1,12 +1,12 @@
--- `parts::carry`: 0 and 2^32 times 2^-32 are 0 and 1, and otherwise computed as it is defined. Assumes nothing.
+-- `carries::carry`: 0 and 2^32 times 2^-32 are 0 and 1, and otherwise computed as it is defined. Assumes nothing.
 use borrow.Author.Needs.{needs}
 use mathlib.Core.Path.{sym, ap, _∙_}
 use Prim.Native.Nat.{ℕ}
 use Rattle.field.specs.Field.{mulP}
 use Rattle.field.specs.Constants.{inv32}
 use Rattle.field.specs.Carry.{carryP}
-use Rattle.copy_residues.proofs.parts.carry.Statement.{statement}
-use Rattle.copy_residues.proofs.parts.carry.Tie as tie
+use Rattle.copy_residues.proofs.carries.carry.Statement.{statement}
+use Rattle.copy_residues.proofs.carries.carry.Tie as tie
 
 returns : tie.Need-returns
 unfolding carryP mulP

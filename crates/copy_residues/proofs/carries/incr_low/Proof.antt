@@ -1,8 +1,8 @@
--- `parts::incr_low`: computed as it is defined. Assumes nothing.
+-- `carries::incr_low`: computed as it is defined. Assumes nothing.
 use borrow.Author.Needs.{needs}
 use Rattle.copy_residues.specs.Residues.{incrLow}
-use Rattle.copy_residues.proofs.parts.incr_low.Statement.{statement}
-use Rattle.copy_residues.proofs.parts.incr_low.Tie as tie
+use Rattle.copy_residues.proofs.carries.incr_low.Statement.{statement}
+use Rattle.copy_residues.proofs.carries.incr_low.Tie as tie
 
 pub incr-low-spec : {M : Type 1} → statement M
 unfolding incrLow

@@ -1,8 +1,8 @@
--- `parts::res_high`: computed as it is defined. Assumes nothing.
+-- `carries::res_high`: computed as it is defined. Assumes nothing.
 use borrow.Author.Needs.{needs}
 use Rattle.copy_residues.specs.Residues.{resHigh}
-use Rattle.copy_residues.proofs.parts.res_high.Statement.{statement}
-use Rattle.copy_residues.proofs.parts.res_high.Tie as tie
+use Rattle.copy_residues.proofs.carries.res_high.Statement.{statement}
+use Rattle.copy_residues.proofs.carries.res_high.Tie as tie
 
 pub res-high-spec : {M : Type 1} → statement M
 unfolding resHigh

@@ -1,8 +1,8 @@
--- `parts::decr_low`: computed as it is defined. Assumes nothing.
+-- `carries::decr_low`: computed as it is defined. Assumes nothing.
 use borrow.Author.Needs.{needs}
 use Rattle.copy_residues.specs.Residues.{decrLow}
-use Rattle.copy_residues.proofs.parts.decr_low.Statement.{statement}
-use Rattle.copy_residues.proofs.parts.decr_low.Tie as tie
+use Rattle.copy_residues.proofs.carries.decr_low.Statement.{statement}
+use Rattle.copy_residues.proofs.carries.decr_low.Tie as tie
 
 pub decr-low-spec : {M : Type 1} → statement M
 unfolding decrLow

@@ -1,8 +1,8 @@
--- `parts::gap_high`: computed as it is defined. Assumes nothing.
+-- `carries::gap_high`: computed as it is defined. Assumes nothing.
 use borrow.Author.Needs.{needs}
 use Rattle.copy_residues.specs.Residues.{gapHigh}
-use Rattle.copy_residues.proofs.parts.gap_high.Statement.{statement}
-use Rattle.copy_residues.proofs.parts.gap_high.Tie as tie
+use Rattle.copy_residues.proofs.carries.gap_high.Statement.{statement}
+use Rattle.copy_residues.proofs.carries.gap_high.Tie as tie
 
 pub gap-high-spec : {M : Type 1} → statement M
 unfolding gapHigh

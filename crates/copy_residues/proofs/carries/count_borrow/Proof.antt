@@ -1,10 +1,10 @@
--- `parts::count_borrow`: the high carry of COUNT_DECR + step over COUNT, which is the borrow by `carried`. Assumes nothing.
+-- `carries::count_borrow`: the high carry of COUNT_DECR + step over COUNT, which is the borrow by `carried`. Assumes nothing.
 use borrow.Author.Needs.{needs}
 use mathlib.Core.Path.{sym}
 use Rattle.copy_residues.specs.Residues.{decrHigh}
 use Rattle.copy_residues.proofs.CountBorrow.{carried}
-use Rattle.copy_residues.proofs.parts.count_borrow.Statement.{statement}
-use Rattle.copy_residues.proofs.parts.count_borrow.Tie as tie
+use Rattle.copy_residues.proofs.carries.count_borrow.Statement.{statement}
+use Rattle.copy_residues.proofs.carries.count_borrow.Tie as tie
 
 returns : tie.Need-returns
 unfolding decrHigh

@@ -1,8 +1,8 @@
--- `parts::incr_high`: computed as it is defined. Assumes nothing.
+-- `carries::incr_high`: computed as it is defined. Assumes nothing.
 use borrow.Author.Needs.{needs}
 use Rattle.copy_residues.specs.Residues.{incrHigh}
-use Rattle.copy_residues.proofs.parts.incr_high.Statement.{statement}
-use Rattle.copy_residues.proofs.parts.incr_high.Tie as tie
+use Rattle.copy_residues.proofs.carries.incr_high.Statement.{statement}
+use Rattle.copy_residues.proofs.carries.incr_high.Tie as tie
 
 pub incr-high-spec : {M : Type 1} → statement M
 unfolding incrHigh

@@ -1,8 +1,8 @@
--- `parts::res_low`: computed as it is defined. Assumes nothing.
+-- `carries::res_low`: computed as it is defined. Assumes nothing.
 use borrow.Author.Needs.{needs}
 use Rattle.copy_residues.specs.Residues.{resLow}
-use Rattle.copy_residues.proofs.parts.res_low.Statement.{statement}
-use Rattle.copy_residues.proofs.parts.res_low.Tie as tie
+use Rattle.copy_residues.proofs.carries.res_low.Statement.{statement}
+use Rattle.copy_residues.proofs.carries.res_low.Tie as tie
 
 pub res-low-spec : {M : Type 1} → statement M
 unfolding resLow

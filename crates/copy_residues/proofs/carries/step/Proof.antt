@@ -1,11 +1,11 @@
--- `parts::step`: 8 and 1 where SINGLE is 0 and 1, and otherwise computed as it is defined. Assumes nothing.
+-- `carries::step`: 8 and 1 where SINGLE is 0 and 1, and otherwise computed as it is defined. Assumes nothing.
 use borrow.Author.Needs.{needs}
 use mathlib.Core.Path.{_≡_, refl, sym, ap, _∙_}
 use Prim.Native.Nat.{ℕ, _-_}
 use Rattle.field.specs.Field.{p, addP, mulP}
 use Rattle.copy_residues.specs.Residues.{step}
-use Rattle.copy_residues.proofs.parts.step.Statement.{statement}
-use Rattle.copy_residues.proofs.parts.step.Tie as tie
+use Rattle.copy_residues.proofs.carries.step.Statement.{statement}
+use Rattle.copy_residues.proofs.carries.step.Tie as tie
 
 -- the width of SINGLE s
 width : ℕ → ℕ

@@ -1,12 +1,12 @@
--- `parts::halves_word`: the sum of two halves stays below p, and otherwise computed as it is defined. Assumes nothing.
+-- `carries::halves_word`: the sum of two halves stays below p, and otherwise computed as it is defined. Assumes nothing.
 use borrow.Author.Needs.{needs}
 use mathlib.Core.Path.{_≡_, _∙_}
 use Prim.Native.Nat.{ℕ, _+_, _*_, _<_}
 use native.Mathlib.Omega.{arith}
 use Rattle.field.specs.Field.{addP, mulP}
 use Rattle.copy_residues.specs.Residues.{halvesWord}
-use Rattle.copy_residues.proofs.parts.halves_word.Statement.{statement}
-use Rattle.copy_residues.proofs.parts.halves_word.Tie as tie
+use Rattle.copy_residues.proofs.carries.halves_word.Statement.{statement}
+use Rattle.copy_residues.proofs.carries.halves_word.Tie as tie
 
 plain : (low high : ℕ) → low < 65536 → high < 65536 → low + 65536 * high ≡ addP low (mulP 65536 high)
 unfolding addP mulP

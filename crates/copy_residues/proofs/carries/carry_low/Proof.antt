@@ -1,8 +1,8 @@
--- `parts::carry_low`: the carry of the sum. Assumes nothing.
+-- `carries::carry_low`: the carry of the sum. Assumes nothing.
 use borrow.Author.Needs.{needs}
 use Rattle.field.specs.Carry.{carryLow}
-use Rattle.copy_residues.proofs.parts.carry_low.Statement.{statement}
-use Rattle.copy_residues.proofs.parts.carry_low.Tie as tie
+use Rattle.copy_residues.proofs.carries.carry_low.Statement.{statement}
+use Rattle.copy_residues.proofs.carries.carry_low.Tie as tie
 
 pub carry-low-spec : {M : Type 1} → statement M
 unfolding carryLow

@@ -1,8 +1,8 @@
--- `parts::gap_low`: computed as it is defined. Assumes nothing.
+-- `carries::gap_low`: computed as it is defined. Assumes nothing.
 use borrow.Author.Needs.{needs}
 use Rattle.copy_residues.specs.Residues.{gapLow}
-use Rattle.copy_residues.proofs.parts.gap_low.Statement.{statement}
-use Rattle.copy_residues.proofs.parts.gap_low.Tie as tie
+use Rattle.copy_residues.proofs.carries.gap_low.Statement.{statement}
+use Rattle.copy_residues.proofs.carries.gap_low.Tie as tie
 
 pub gap-low-spec : {M : Type 1} → statement M
 unfolding gapLow

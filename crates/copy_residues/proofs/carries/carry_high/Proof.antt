@@ -1,8 +1,8 @@
--- `parts::carry_high`: the carry of the sum. Assumes nothing.
+-- `carries::carry_high`: the carry of the sum. Assumes nothing.
 use borrow.Author.Needs.{needs}
 use Rattle.field.specs.Carry.{carryHigh}
-use Rattle.copy_residues.proofs.parts.carry_high.Statement.{statement}
-use Rattle.copy_residues.proofs.parts.carry_high.Tie as tie
+use Rattle.copy_residues.proofs.carries.carry_high.Statement.{statement}
+use Rattle.copy_residues.proofs.carries.carry_high.Tie as tie
 
 pub carry-high-spec : {M : Type 1} → statement M
 unfolding carryHigh
