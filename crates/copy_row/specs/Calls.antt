@@ -4,6 +4,7 @@
 use Prim.Native.Nat.{ℕ, _+_, _-_}
 use mathlib.Core.List.{List, [], _∷_, _++_}
 use Rattle.copy_row.specs.Columns.{at}
+use Rattle.copy_row.specs.declared.CopyOperation.{CopyOperation}
 use Rattle.copy_row.specs.declared.Functionality.{Functionality}
 use Rattle.copy_row.specs.declared.Functionality.the-variants.{Copy, Set, Write}
 
@@ -58,4 +59,14 @@ opOf r =
       piece = record { width = at r 4; value = eightAt r 8 };
       first = at r 5;
       end = at r 6;
+    }
+
+-- the operation record that the code's struct holds
+abbrev pub operation : CopyOperation → Op
+operation o =
+    record {
+      call = record { kind = o .kind; stamp = o .timestamp; src = o .src; dst = o .dst; count = o .count };
+      piece = record { width = o .width; value = o .value };
+      first = o .first;
+      end = o .end;
     }
