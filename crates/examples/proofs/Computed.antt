@@ -7,8 +7,9 @@ use Rattle.examples.specs.Examples.{StarredExamples}
 pub starred-examples : StarredExamples
 unfolding mulP rowCount doubled
 starred-examples =
-    record
-      { no-records = refl
-      ; five-records = refl
-      ; minus-one-squared = refl
-      ; word-squared = refl }
+    record {
+      no-records = refl;
+      five-records = refl;
+      minus-one-squared = refl;
+      word-squared = refl;
+    }
