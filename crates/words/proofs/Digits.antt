@@ -86,7 +86,16 @@ module _ (x : ℕ) (fits : x < 2 ^ 64) where
       let top : x / 2 ^ 48 ≡ x / 2 ^ 48 % 2 ^ 16 = omega arith in
       simp div-div-eq-div-mul (λ i. x % 2 ^ 16 ∷ x / 2 ^ 16 % 2 ^ 16 ∷ x / 2 ^ 32 % 2 ^ 16 ∷ top i ∷ [])
 
-  pub bytes-shifted : x % 2 ^ 8 ∷ x / 2 ^ 8 % 2 ^ 8 ∷ x / 2 ^ 16 % 2 ^ 8 ∷ x / 2 ^ 24 % 2 ^ 8 ∷ x / 2 ^ 32 % 2 ^ 8 ∷ x / 2 ^ 40 % 2 ^ 8 ∷ x / 2 ^ 48 % 2 ^ 8 ∷ x / 2 ^ 56 ∷ [] ≡ bytes x
+  pub bytes-shifted : x % 2 ^ 8
+      ∷ x / 2 ^ 8 % 2 ^ 8
+      ∷ x / 2 ^ 16 % 2 ^ 8
+      ∷ x / 2 ^ 24 % 2 ^ 8
+      ∷ x / 2 ^ 32 % 2 ^ 8
+      ∷ x / 2 ^ 40 % 2 ^ 8
+      ∷ x / 2 ^ 48 % 2 ^ 8
+      ∷ x / 2 ^ 56
+      ∷ []
+      ≡ bytes x
   bytes-shifted =
       let top : x / 2 ^ 56 ≡ x / 2 ^ 56 % 2 ^ 8 = omega arith in
       simp div-div-eq-div-mul
