@@ -2,8 +2,10 @@
 // products (document 01: "Add, subtract, multiply modulo p"). Products by halves of 32 bits, since there are no 128-bit numbers here.
 // Assumes nothing.
 use std::num::wrapping_add_u64;
+ghost use mathlib.Core.List.{[], _∷_};
 ghost use mathlib.Core.Path.{_≡_};
 ghost use Prim.Native.Nat.{_+_, _*_, _/_, _%_, _^_, _<_};
+ghost use Rattle.field.specs.Constants.{inv32, inv16, inv64, inv48, negInv32, negInv64, negSevenInv64, eightInv64};
 ghost use Rattle.field.specs.Field.{p, addP, subP, mulP, bitP};
 
 pub const P: u64 = 18446744069414584321;
@@ -26,6 +28,23 @@ pub const NEG_INV_2_64: u64 = 4294967296;
 pub const NEG_SEVEN_INV_2_64: u64 = 30064771072;
 
 pub const EIGHT_INV_2_64: u64 = 18446744035054845953;
+
+// The constants above are the numbers of specs/Constants, in this order.
+pub fn constants() -> [u64; 9]
+    ensures { λ r. ⌜ r ≡ inv32 ∷ inv32 ∷ inv16 ∷ inv64 ∷ inv48 ∷ negInv32 ∷ negInv64 ∷ negSevenInv64 ∷ eightInv64 ∷ [] ⌝ }
+{
+    [
+        INV_SHIFT_32,
+        INV_2_32,
+        INV_2_16,
+        INV_2_64,
+        INV_2_48,
+        NEG_INV_2_32,
+        NEG_INV_2_64,
+        NEG_SEVEN_INV_2_64,
+        EIGHT_INV_2_64,
+    ]
+}
 
 // a + b, with no sum above 2^64 on the way.
 pub fn add(a: u64, b: u64) -> u64
