@@ -1,6 +1,6 @@
 -- Laws of the copy table, from those of all tables: what a made table says of its records, what each of its rows is, that numbers past
 -- the rows keep their values, and what the loop needs that writes the rows. Assumes nothing.
-use mathlib.Core.Path.{_≡_, refl, sym, ap, _∙_}
+use mathlib.Core.Path.{_≡_, refl, ap, _∙_}
 use mathlib.Core.Bool.{true}
 use mathlib.Core.List.{List, _++_}
 use Prim.Native.Nat.{ℕ, zero, suc, _+_, _-_, _*_, _≤_, _<_}
@@ -8,7 +8,7 @@ use native.Mathlib.Omega.{arith}
 use lib.Dec.{lit≤}
 use lib.ListN.{length, take, drop}
 use lib.Seq.{take-at}
-use Rattle.records.specs.Lists.{store, flat}
+use Rattle.records.specs.Lists.{flat}
 use Rattle.records.specs.Records.{recordCount, recordAt, firstBad}
 use Rattle.records.specs.Table.{rowAt, tableAfter}
 use Rattle.records.specs.declared.TableAnswer.{TableAnswer}
@@ -60,9 +60,11 @@ module _ (ops : List ℕ) where
 
   pub next-row : (table t written : List ℕ) (k : ℕ) → t ≡ copyAfter ops (Made k) table → written ≡ copyRowAt ops k
       → COLUMNS * k + COLUMNS ≤ length table
-      → take (COLUMNS * k) t ++ (written ++ drop (COLUMNS * k + COLUMNS - COLUMNS * k) (drop (COLUMNS * k) t)) ≡ copyAfter ops (Made (k + 1)) table
+      → take (COLUMNS * k) t ++ (written ++ drop (COLUMNS * k + COLUMNS - COLUMNS * k) (drop (COLUMNS * k) t))
+      ≡ copyAfter ops (Made (k + 1)) table
   unfolding copyAfter tableAfter
-  next-row table t written k q e fits = tables.rows-more COLUMNS OP-WIDTH copyRow paddingRow copy-row-wide padding-wide ops table t written k q e fits
+  next-row table t written k q e fits =
+      tables.rows-more COLUMNS OP-WIDTH copyRow paddingRow copy-row-wide padding-wide ops table t written k q e fits
 
   -- the lent table keeps its length
   pub after-length : (answer : TableAnswer) (table : List ℕ) → length (copyAfter ops answer table) ≡ length table
@@ -75,16 +77,20 @@ module _ (ops : List ℕ) where
   past-rows table rows = tables.past-rows COLUMNS OP-WIDTH copyRow paddingRow copy-row-wide padding-wide ops table rows
 
   -- the rows, joined, stand at its front
-  pub front-rows : (table : List ℕ) (rows : ℕ) → COLUMNS * rows ≤ length table → take (COLUMNS * rows) (copyAfter ops (Made rows) table) ≡ flat (copyRowAt ops) rows
+  pub front-rows : (table : List ℕ) (rows : ℕ) → COLUMNS * rows ≤ length table
+      → take (COLUMNS * rows) (copyAfter ops (Made rows) table) ≡ flat (copyRowAt ops) rows
   unfolding copyAfter tableAfter
   front-rows table rows fits =
+      let joined = flat (copyRowAt ops) rows in
       let wide = tables.rows-length COLUMNS OP-WIDTH copyRow paddingRow copy-row-wide padding-wide ops rows in
-      ap (take (COLUMNS * rows)) (store-eq table 0 (flat (copyRowAt ops) rows) (omega arith)) ∙ take-at (flat (copyRowAt ops) rows) _ _ wide
+      ap (take (COLUMNS * rows)) (store-eq table 0 joined (omega arith)) ∙ take-at joined _ _ wide
 
   -- row k
-  pub made-row : (table : List ℕ) (rows k : ℕ) → COLUMNS * rows ≤ length table → k < rows → recordAt COLUMNS (copyAfter ops (Made rows) table) k ≡ copyRowAt ops k
+  pub made-row : (table : List ℕ) (rows k : ℕ) → COLUMNS * rows ≤ length table → k < rows
+      → recordAt COLUMNS (copyAfter ops (Made rows) table) k ≡ copyRowAt ops k
   unfolding copyAfter
-  made-row table rows k fits h = tables.made-row COLUMNS OP-WIDTH copyRow paddingRow copy-row-wide padding-wide ops table rows k fits h
+  made-row table rows k fits h =
+      tables.made-row COLUMNS OP-WIDTH copyRow paddingRow copy-row-wide padding-wide ops table rows k fits h
 
   -- row k is that of record k, and padding after the last record
   pub row-of-record : (k : ℕ) → k < recordCount OP-WIDTH ops → copyRowAt ops k ≡ tableRow (opOf (recordAt OP-WIDTH ops k))
@@ -94,9 +100,20 @@ module _ (ops : List ℕ) where
   row-of-none k h = tables.row-padding OP-WIDTH copyRow paddingRow ops k h
 
 -- what the row of each record within its limits has, and padding, every row of a made table has
-pub every-row : (P : List ℕ → Type 0) (limit : ℕ) (ops table : List ℕ) (rows : ℕ) → ((o : Op) → OpWithin o → P (tableRow o)) → P paddingRow
-    → copyAnswer limit ops (length table) ≡ Made rows → (k : ℕ) → k < rows → P (recordAt COLUMNS (copyAfter ops (Made rows) table) k)
+pub every-row : (P : List ℕ → Type 0) (limit : ℕ) (ops table : List ℕ) (rows : ℕ) → ((o : Op) → OpWithin o → P (tableRow o))
+    → P paddingRow → copyAnswer limit ops (length table) ≡ Made rows → (k : ℕ) → k < rows
+    → P (recordAt COLUMNS (copyAfter ops (Made rows) table) k)
 unfolding copyAnswer copyAfter
 every-row P limit ops table rows each pads made k h =
     tables.every-row COLUMNS OP-WIDTH copyRow paddingRow copy-row-wide padding-wide ops P goodOp limit rows table
     (λ r e. each (opOf r) (good-within r e)) pads made k h
+
+-- so each is the table row of a record within its limits, or padding
+pub data RowOrPadding (row : List ℕ) : Type 0 where
+  of-record : (o : Op) → OpWithin o → row ≡ tableRow o → RowOrPadding row
+  of-padding : row ≡ paddingRow → RowOrPadding row
+
+pub row-or-padding : (limit : ℕ) (ops table : List ℕ) (rows : ℕ) → copyAnswer limit ops (length table) ≡ Made rows → (k : ℕ) → k < rows
+    → RowOrPadding (recordAt COLUMNS (copyAfter ops (Made rows) table) k)
+row-or-padding limit ops table rows made k h =
+    every-row RowOrPadding limit ops table rows (λ o w. of-record o w refl) (of-padding refl) made k h

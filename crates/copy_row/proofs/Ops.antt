@@ -2,17 +2,17 @@
 use mathlib.Core.Path.{_≡_, refl, sym}
 use mathlib.Core.Bool.{true}
 use mathlib.Core.List.{List, [], _∷_}
-use Prim.Native.Nat.{ℕ, zero, suc, _+_, _-_, _^_, _≤_, _<_, suc-le-suc}
+use Prim.Native.Nat.{ℕ, zero, suc, _+_, _^_, _≤_, _<_, suc-le-suc}
 use native.Mathlib.Nat.{le-of-suc-le-suc}
 use native.Mathlib.Numerals.{add-one}
 use native.Mathlib.Omega.{arith}
 use lib.Dec.{lit≤}
-use lib.ListN.{length, getD, drop, replicate, drop-of-length-le, getD-replicate}
+use lib.ListN.{length, getD, drop, drop-of-length-le, getD-replicate}
 use lib.Seq.{drop-cons}
 use Rattle.words.proofs.Digits.{Below, below-at}
 use Rattle.records.proofs.Records.{within-length, within-at, within-all}
 use Rattle.copy_row.specs.Columns.{at}
-use Rattle.copy_row.specs.Calls.{Op, eightAt, opRecord, opOf}
+use Rattle.copy_row.specs.Calls.{Op, opRecord, opOf}
 use Rattle.copy_row.specs.Trace.{OP-WIDTH, opLimits, goodOp}
 
 -- There and back
@@ -70,19 +70,34 @@ unfolding opLimits Below
 good-within r e =
     record {
       kind = most 7 (lit≤ tt);
-      stamp = suc-le-suc (most 0 (lit≤ tt));
-      src = suc-le-suc (most 1 (lit≤ tt));
-      dst = suc-le-suc (most 2 (lit≤ tt));
-      count = suc-le-suc (most 3 (lit≤ tt));
+      stamp = below 0 (lit≤ tt);
+      src = below 1 (lit≤ tt);
+      dst = below 2 (lit≤ tt);
+      count = below 3 (lit≤ tt);
       width = most 4 (lit≤ tt);
       eight = refl;
-      bytes = (suc-le-suc (most 8 (lit≤ tt)), (suc-le-suc (most 9 (lit≤ tt)), (suc-le-suc (most 10 (lit≤ tt)), (suc-le-suc (most 11 (lit≤ tt)), (suc-le-suc (most 12 (lit≤ tt)), (suc-le-suc (most 13 (lit≤ tt)), (suc-le-suc (most 14 (lit≤ tt)), (suc-le-suc (most 15 (lit≤ tt)), tt))))))));
+      bytes = (
+        below 8 (lit≤ tt),
+        (
+          below 9 (lit≤ tt),
+          (
+            below 10 (lit≤ tt),
+            (
+              below 11 (lit≤ tt),
+              (below 12 (lit≤ tt), (below 13 (lit≤ tt), (below 14 (lit≤ tt), (below 15 (lit≤ tt), tt)))),
+            ),
+          ),
+        ),
+      );
       first = most 5 (lit≤ tt);
       end = most 6 (lit≤ tt);
     }
   where
     most : (i : ℕ) → i < 16 → at r i ≤ getD opLimits i 0
     most i h = within-at opLimits r e i h
+
+    below : (i : ℕ) → i < 16 → at r i < suc (getD opLimits i 0)
+    below i h = suc-le-suc (most i h)
 
 -- an operation record whose fields are among their values is a good record
 pub within-good : (o : Op) → OpWithin o → goodOp (opRecord o) ≡ true

@@ -1,4 +1,9 @@
-// The columns of a copy row, by the names of copy.rs: words (WL) and halves (HL), lowest first, each name the first of its columns.
+// The columns of a copy row, by the names of copy.rs: words (WL) and halves (HL), lowest first. Assumes nothing.
+ghost use mathlib.Core.List.{[], _∷_};
+ghost use mathlib.Core.Path.{_≡_};
+ghost use Prim.Native.Nat.{_+_};
+ghost use Rattle.copy_row.specs.Columns.{TIMESTAMP, VALUE, SRC, SRC-INCR, DST, DST-INCR, COUNT, COUNT-DECR, DST-RES, FIRST, END, SINGLE, IS-SET, IS-WRITE, FIRST-WRITE, MU, MU-COM, MU-COM-WIDE, COLUMNS};
+
 pub const TIMESTAMP_0: usize = 0;
 
 pub const TIMESTAMP_1: usize = 1;
@@ -63,3 +68,60 @@ pub const MU_COM: usize = 39;
 pub const MU_COM_WIDE: usize = 40;
 
 pub const NUM_COLUMNS: usize = 41;
+
+// The constants above are the numbers of specs/Columns, in this order.
+pub fn columns() -> [usize; 23]
+    ensures { λ r. ⌜
+        r
+        ≡ TIMESTAMP
+        ∷ (TIMESTAMP + 1)
+        ∷ VALUE
+        ∷ SRC
+        ∷ (SRC + 1)
+        ∷ SRC-INCR
+        ∷ DST
+        ∷ (DST + 1)
+        ∷ DST-INCR
+        ∷ COUNT
+        ∷ (COUNT + 1)
+        ∷ COUNT-DECR
+        ∷ DST-RES
+        ∷ FIRST
+        ∷ END
+        ∷ SINGLE
+        ∷ IS-SET
+        ∷ IS-WRITE
+        ∷ FIRST-WRITE
+        ∷ MU
+        ∷ MU-COM
+        ∷ MU-COM-WIDE
+        ∷ COLUMNS
+        ∷ []
+        ⌝ }
+{
+    [
+        TIMESTAMP_0,
+        TIMESTAMP_1,
+        VALUE_0,
+        SRC_0,
+        SRC_1,
+        SRC_INCR_0,
+        DST_0,
+        DST_1,
+        DST_INCR_0,
+        COUNT_0,
+        COUNT_1,
+        COUNT_DECR_0,
+        DST_RES_0,
+        FIRST,
+        END,
+        SINGLE,
+        IS_SET,
+        IS_WRITE,
+        FIRST_WRITE,
+        MU,
+        MU_COM,
+        MU_COM_WIDE,
+        NUM_COLUMNS,
+    ]
+}

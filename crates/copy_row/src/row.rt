@@ -1,9 +1,7 @@
 // Internal to the workspace, not open to callers: the copy row of one operation record. Assumes nothing but what each `requires` says.
 ghost use mathlib.Core.Path.{_≡_};
-ghost use mathlib.Core.Bool.{cond, not, _&&_};
-ghost use lib.Dec.{eqb};
+ghost use mathlib.Core.Bool.{cond};
 ghost use lib.ListN.{length};
-ghost use Rattle.words.specs.Words.{wrapAdd, wrapSub};
 ghost use Rattle.copy_row.specs.Columns.{COLUMNS};
 ghost use Rattle.copy_row.specs.Calls.{opOf, operation};
 ghost use Rattle.copy_row.specs.Rows.{bit, dstRes, tableRow, paddingRow};
@@ -11,6 +9,10 @@ ghost use Rattle.copy_row.specs.Trace.{OP-WIDTH, copyRow};
 use crate::CopyOperation;
 use crate::cols;
 use records::lists::put;
+use words::halves;
+use words::words;
+use words::wrapping_add;
+use words::wrapping_sub;
 
 // The operation of a record of 16 numbers.
 pub fn operation(op: &[u64]) -> CopyOperation
@@ -26,16 +28,7 @@ pub fn operation(op: &[u64]) -> CopyOperation
         first: op[5],
         end: op[6],
         kind: op[7],
-        value: [
-            op[8],
-            op[9],
-            op[10],
-            op[11],
-            op[12],
-            op[13],
-            op[14],
-            op[15],
-        ],
+        value: [op[8], op[9], op[10], op[11], op[12], op[13], op[14], op[15]],
     }
 }
 
@@ -53,18 +46,6 @@ fn when(b: bool, x: u64) -> u64
     if b { x } else { 0 }
 }
 
-fn wrapping_add(a: u64, b: u64) -> u64
-    ensures { λ r. ⌜ r ≡ wrapAdd a b ⌝ }
-{
-    std::num::wrapping_add_u64(a, b)
-}
-
-fn wrapping_sub(a: u64, b: u64) -> u64
-    ensures { λ r. ⌜ r ≡ wrapSub a b ⌝ }
-{
-    std::num::wrapping_sub_u64(a, b)
-}
-
 // The value written back to the register of dst: dst + count for a Write, else dst.
 fn dst_res(op: CopyOperation) -> u64
     ensures { λ r. ⌜ r ≡ dstRes (operation op .call) ⌝ }
@@ -80,21 +61,19 @@ fn dst_res(op: CopyOperation) -> u64
 fn cells(op: CopyOperation) -> [u64; 41]
     ensures { λ r. ⌜ r ≡ tableRow (operation op) ⌝ }
 {
+    let timestamp = words(op.timestamp);
     let value = op.value;
-    let src_incr = wrapping_add(op.src, op.width);
-    let dst_incr = wrapping_add(op.dst, op.width);
-    let count_decr = wrapping_sub(op.count, op.width);
-    let dst_res = dst_res(op);
-    let single = bit(op.width == 1);
-    let is_set = bit(op.kind == 1);
-    let is_write = bit(op.kind == 2);
-    let first_write = when(op.kind == 2, op.first);
+    let src = words(op.src);
+    let src_incr = halves(wrapping_add(op.src, op.width));
+    let dst = words(op.dst);
+    let dst_incr = halves(wrapping_add(op.dst, op.width));
+    let count = words(op.count);
+    let count_decr = halves(wrapping_sub(op.count, op.width));
+    let dst_res = halves(dst_res(op));
     let commits = (op.kind == 2) & (op.count != 0);
-    let mu_com = bit(commits);
-    let mu_com_wide = bit(commits & (op.width == 8));
     [
-        op.timestamp % 0x1_0000_0000,
-        op.timestamp / 0x1_0000_0000 % 0x1_0000_0000,
+        timestamp[0],
+        timestamp[1],
         value[0],
         value[1],
         value[2],
@@ -103,37 +82,37 @@ fn cells(op: CopyOperation) -> [u64; 41]
         value[5],
         value[6],
         value[7],
-        op.src % 0x1_0000_0000,
-        op.src / 0x1_0000_0000 % 0x1_0000_0000,
-        src_incr % 0x1_0000,
-        src_incr / 0x1_0000 % 0x1_0000,
-        src_incr / 0x1_0000 / 0x1_0000 % 0x1_0000,
-        src_incr / 0x1_0000 / 0x1_0000 / 0x1_0000 % 0x1_0000,
-        op.dst % 0x1_0000_0000,
-        op.dst / 0x1_0000_0000 % 0x1_0000_0000,
-        dst_incr % 0x1_0000,
-        dst_incr / 0x1_0000 % 0x1_0000,
-        dst_incr / 0x1_0000 / 0x1_0000 % 0x1_0000,
-        dst_incr / 0x1_0000 / 0x1_0000 / 0x1_0000 % 0x1_0000,
-        op.count % 0x1_0000_0000,
-        op.count / 0x1_0000_0000 % 0x1_0000_0000,
-        count_decr % 0x1_0000,
-        count_decr / 0x1_0000 % 0x1_0000,
-        count_decr / 0x1_0000 / 0x1_0000 % 0x1_0000,
-        count_decr / 0x1_0000 / 0x1_0000 / 0x1_0000 % 0x1_0000,
-        dst_res % 0x1_0000,
-        dst_res / 0x1_0000 % 0x1_0000,
-        dst_res / 0x1_0000 / 0x1_0000 % 0x1_0000,
-        dst_res / 0x1_0000 / 0x1_0000 / 0x1_0000 % 0x1_0000,
+        src[0],
+        src[1],
+        src_incr[0],
+        src_incr[1],
+        src_incr[2],
+        src_incr[3],
+        dst[0],
+        dst[1],
+        dst_incr[0],
+        dst_incr[1],
+        dst_incr[2],
+        dst_incr[3],
+        count[0],
+        count[1],
+        count_decr[0],
+        count_decr[1],
+        count_decr[2],
+        count_decr[3],
+        dst_res[0],
+        dst_res[1],
+        dst_res[2],
+        dst_res[3],
         op.first,
         op.end,
-        single,
-        is_set,
-        is_write,
-        first_write,
+        bit(op.width == 1),
+        bit(op.kind == 1),
+        bit(op.kind == 2),
+        when(op.kind == 2, op.first),
         1,
-        mu_com,
-        mu_com_wide,
+        bit(commits),
+        bit(commits & (op.width == 8)),
     ]
 }
 

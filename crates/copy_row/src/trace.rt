@@ -6,14 +6,14 @@ ghost use lib.ListN.{length};
 ghost use Rattle.records.specs.Records.{recordCount, firstBad};
 ghost use Rattle.copy_row.specs.Columns.{COLUMNS};
 ghost use Rattle.copy_row.specs.Trace.{OP-WIDTH, goodOp, copyAnswer, copyAfter};
+use crate::cols::NUM_COLUMNS;
+use crate::row::write_padding;
+use crate::row::write_row;
 use records::TableAnswer;
 use records::lists::record_at;
 use records::lists::record_count;
 use records::lists::table_answer;
 use records::lists::within_limits;
-use crate::cols::NUM_COLUMNS;
-use crate::row::write_padding;
-use crate::row::write_row;
 
 // Numbers in an operation record.
 pub const OP_WIDTH: usize = 16;

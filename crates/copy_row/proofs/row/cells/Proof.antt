@@ -1,149 +1,110 @@
-use borrow.Author.Needs.{needs}
-use mathlib.Core.Path.{_≡_}
+-- `copy_row::row::cells` meets its contract: each part of the row is what the call that made it ensures. Assumes nothing.
+use mathlib.Core.Path.{_≡_, ap, _∙_}
 use mathlib.Core.Bool.{cond, _&&_}
-use mathlib.Core.List.{[], _∷_, _++_}
+use mathlib.Core.List.{List, [], _∷_, _++_}
 use Prim.Native.Nat.{ℕ}
+use borrow.Author.Needs.{needs}
 use lib.Dec.{eqb}
 use Rattle.words.specs.Words.{words, halves}
 use Rattle.copy_row.specs.Calls.{Op, eightAt, operation}
 use Rattle.copy_row.specs.Rows.{bit, wrapped, dstRes, muCom, rowOf, tableRow}
+use Rattle.copy_row.proofs.Ops.{numbersAt}
 use Rattle.copy_row.proofs.row.cells.Statement.{statement}
 use Rattle.copy_row.proofs.row.cells.Tie as tie
-use Rattle.copy_row.proofs.row.cells.Reads as reads
-use Rattle.copy_row.proofs.row.cells.Lts as lts
-use Rattle.copy_row.proofs.row.bit.Reads as bit-reads
-use Rattle.copy_row.proofs.row.dst_res.Reads as dst-res-reads
-use Rattle.copy_row.proofs.row.when.Reads as when-reads
-use Rattle.copy_row.proofs.row.wrapping_add.Reads as wrapping-add-reads
-use Rattle.copy_row.proofs.row.wrapping_sub.Reads as wrapping-sub-reads
 
--- a row whose sums and flags are right
-row-of : (o : Op) {src dst count res single set write first commits wide : ℕ}
-    → src ≡ wrapped o .src → dst ≡ wrapped o .dst → count ≡ wrapped o .count → res ≡ dstRes (o .call)
-    → single ≡ bit (eqb (o .piece .width) 1) → set ≡ bit (eqb (o .call .kind) 1) → write ≡ bit (eqb (o .call .kind) 2)
-    → first ≡ cond (eqb (o .call .kind) 2) (o .first) 0 → commits ≡ bit (muCom (o .call)) → wide ≡ bit (muCom (o .call) && eqb (o .piece .width) 8)
-    → words (o .call .stamp) ++ eightAt (o .piece .value) 0 ++ words (o .call .src) ++ halves src ++ words (o .call .dst) ++ halves dst
-        ++ words (o .call .count) ++ halves count ++ halves res
-        ++ (o .first ∷ o .end ∷ single ∷ set ∷ write ∷ first ∷ 1 ∷ commits ∷ wide ∷ [])
+-- a row whose words, halves and flags are right
+row-of : (o : Op) {stamp src next-src dst next-dst count next-count res : List ℕ} {single set write first commits wide : ℕ}
+    → stamp ≡ words (o .call .stamp) → src ≡ words (o .call .src) → next-src ≡ halves (wrapped o .src) → dst ≡ words (o .call .dst)
+    → next-dst ≡ halves (wrapped o .dst) → count ≡ words (o .call .count) → next-count ≡ halves (wrapped o .count)
+    → res ≡ halves (dstRes (o .call)) → single ≡ bit (eqb (o .piece .width) 1) → set ≡ bit (eqb (o .call .kind) 1)
+    → write ≡ bit (eqb (o .call .kind) 2) → first ≡ cond (eqb (o .call .kind) 2) (o .first) 0 → commits ≡ bit (muCom (o .call))
+    → wide ≡ bit (muCom (o .call) && eqb (o .piece .width) 8)
+    → numbersAt stamp 0 2 ++ eightAt (o .piece .value) 0 ++ numbersAt src 0 2 ++ numbersAt next-src 0 4 ++ numbersAt dst 0 2
+    ++ numbersAt next-dst 0 4 ++ numbersAt count 0 2 ++ numbersAt next-count 0 4 ++ numbersAt res 0 4
+    ++ (o .first ∷ o .end ∷ single ∷ set ∷ write ∷ first ∷ 1 ∷ commits ∷ wide ∷ [])
     ≡ tableRow o
 unfolding rowOf
-row-of o a b c d e f g h i j = rw (a, b, c, d, e, f, g, h, i, j)
+row-of o a b c d e f g h i j k l m n = rw (a, b, c, d, e, f, g, h, i, j, k, l, m, n)
 
--- src/row.rt:81:9
-wrapping-add-requires : tie.Need-wrapping-add-requires
-wrapping-add-requires c κs = search needs
-
--- src/row.rt:82:9
-wrapping-add-requires-2 : tie.Need-wrapping-add-requires-2
-wrapping-add-requires-2 c κs = search needs
-
--- src/row.rt:83:9
-wrapping-sub-requires : tie.Need-wrapping-sub-requires
-wrapping-sub-requires c κs = search needs
-
--- src/row.rt:84:9
-dst-res-requires : tie.Need-dst-res-requires
-dst-res-requires c κs = search needs
-
--- src/row.rt:85:9
-bit-requires : tie.Need-bit-requires
-bit-requires c κs = search needs
-
--- src/row.rt:86:9
-bit-requires-2 : tie.Need-bit-requires-2
-bit-requires-2 c κs = search needs
-
--- src/row.rt:87:9
-bit-requires-3 : tie.Need-bit-requires-3
-bit-requires-3 c κs = search needs
-
--- src/row.rt:88:9
-when-requires : tie.Need-when-requires
-when-requires c κs = search needs
-
--- src/row.rt:90:9
-bit-requires-4 : tie.Need-bit-requires-4
-bit-requires-4 c κs = search needs
-
--- src/row.rt:91:9
-bit-requires-5 : tie.Need-bit-requires-5
-bit-requires-5 c κs = search needs
-
--- src/row.rt:95:9
-array-read-t21 : tie.Need-array-read-t21
-array-read-t21 c = search needs
-
--- src/row.rt:96:9
-array-read-t24 : tie.Need-array-read-t24
-array-read-t24 c = search needs
-
--- src/row.rt:97:9
-array-read-t27 : tie.Need-array-read-t27
-array-read-t27 c = search needs
-
--- src/row.rt:98:9
-array-read-t30 : tie.Need-array-read-t30
-array-read-t30 c = search needs
-
--- src/row.rt:99:9
-array-read-t33 : tie.Need-array-read-t33
-array-read-t33 c = search needs
-
--- src/row.rt:100:9
-array-read-t36 : tie.Need-array-read-t36
-array-read-t36 c = search needs
-
--- src/row.rt:101:9
-array-read-t39 : tie.Need-array-read-t39
-array-read-t39 c = search needs
-
--- src/row.rt:102:9
-array-read-t42 : tie.Need-array-read-t42
-array-read-t42 c = search needs
-
--- src/row.rt:77:1
 returns : tie.Need-returns
 returns c =
-    let at-wide = c .before .before .before .before .before .before .before .before in
-    let at-com = at-wide .before .before in
-    let at-first-write = at-com .before .before .before in
-    let at-is-write = at-first-write .before .before in
-    let at-is-set = at-is-write .before .before in
-    let at-single = at-is-set .before .before in
-    let at-res = at-single .before .before in
+    let at-com = c .before .before in
+    let at-write = at-com .before .before .before in
+    let at-single = at-write .before .before .before .before in
+    let at-res = at-single .before .before .before .before in
+    let at-count = at-res .before .before .before .before in
+    let at-dst = at-count .before .before .before in
+    let at-src = at-dst .before .before .before in
+    let at-stamp = at-src .before .before in
     row-of
-    (operation (at-res .before .before .before .before .before .args .op))
-    (at-res .before .before .before .wrapping-add .ensures)
-    (at-res .before .before .wrapping-add2 .ensures)
-    (at-res .before .wrapping-sub .ensures)
-    (at-res .dst-res .ensures)
+    (operation (at-stamp .before .args .op))
+    (at-stamp .words .ensures)
+    (at-src .words2 .ensures)
+    (at-dst .before .halves .ensures ∙ ap halves (at-dst .before .before .wrapping-add .ensures))
+    (at-dst .words3 .ensures)
+    (at-count .before .halves2 .ensures ∙ ap halves (at-count .before .before .wrapping-add2 .ensures))
+    (at-count .words4 .ensures)
+    (at-res .before .before .halves3 .ensures ∙ ap halves (at-res .before .before .before .wrapping-sub .ensures))
+    (at-res .halves4 .ensures ∙ ap halves (at-res .before .dst-res .ensures))
     (at-single .bit .ensures)
-    (at-is-set .bit2 .ensures)
-    (at-is-write .bit3 .ensures)
-    (at-first-write .when .ensures)
+    (at-write .before .before .bit2 .ensures)
+    (at-write .bit3 .ensures)
+    (at-com .before .when .ensures)
     (at-com .bit4 .ensures)
-    (at-wide .bit5 .ensures)
+    (c .bit5 .ensures)
 
 pub cells-spec : {M : Type 1} → statement M
 cells-spec =
     tie.close
     (tie.spec
-    wrapping-add-requires
-    wrapping-add-requires-2
-    wrapping-sub-requires
-    dst-res-requires
-    bit-requires
-    bit-requires-2
-    bit-requires-3
-    when-requires
-    bit-requires-4
-    bit-requires-5
-    array-read-t21
-    array-read-t24
-    array-read-t27
-    array-read-t30
-    array-read-t33
-    array-read-t36
-    array-read-t39
-    array-read-t42
+    (λ c κs. search needs)
+    (λ c κs. search needs)
+    (λ c κs. search needs)
+    (λ c κs. search needs)
+    (λ c κs. search needs)
+    (λ c κs. search needs)
+    (λ c κs. search needs)
+    (λ c κs. search needs)
+    (λ c κs. search needs)
+    (λ c κs. search needs)
+    (λ c κs. search needs)
+    (λ c κs. search needs)
+    (λ c. search needs)
+    (λ c. search needs)
+    (λ c. search needs)
+    (λ c. search needs)
+    (λ c. search needs)
+    (λ c. search needs)
+    (λ c. search needs)
+    (λ c. search needs)
+    (λ c. search needs)
+    (λ c. search needs)
+    (λ c. search needs)
+    (λ c. search needs)
+    (λ c. search needs)
+    (λ c. search needs)
+    (λ c. search needs)
+    (λ c. search needs)
+    (λ c. search needs)
+    (λ c. search needs)
+    (λ c. search needs)
+    (λ c. search needs)
+    (λ c. search needs)
+    (λ c. search needs)
+    (λ c. search needs)
+    (λ c. search needs)
+    (λ c. search needs)
+    (λ c. search needs)
+    (λ c. search needs)
+    (λ c. search needs)
+    (λ c. search needs)
+    (λ c. search needs)
+    (λ c. search needs)
+    (λ c. search needs)
+    (λ c κs. search needs)
+    (λ c κs. search needs)
+    (λ c κs. search needs)
+    (λ c κs. search needs)
+    (λ c κs. search needs)
+    (λ c κs. search needs)
     returns)
