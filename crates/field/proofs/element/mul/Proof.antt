@@ -3,7 +3,7 @@
 use borrow.Author.Needs.{needs}
 use native.Mathlib.Omega.{arith}
 use Prim.Native.Nat.{ℕ, _*_, _/_, _%_, _^_, _<_, _≤_}
-use mathlib.Core.Path.{_≡_, ap, _∙_}
+use mathlib.Core.Path.{ap, _∙_}
 use Rattle.field.specs.Field.{mulP, p}
 use Rattle.field.proofs.Reduction.{word-product, halves}
 use Rattle.field.proofs.element.mul.Statement.{statement}
