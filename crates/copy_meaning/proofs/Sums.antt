@@ -5,7 +5,7 @@ use mathlib.Core.List.{List}
 use Prim.Native.Nat.{ℕ, _+_, _-_, _*_, _^_, _<_}
 use native.Mathlib.Omega.{arith}
 use Rattle.field.specs.Field.{bitP}
-use Rattle.field.specs.Carry.{carryLow, carryHigh}
+use Rattle.field.specs.Carries.{carryLow, carryHigh}
 use Rattle.field.proofs.Carry.{sum-of-zero, zero-of-sum}
 use Rattle.copy_row.specs.Columns.{at, SRC, DST, COUNT, COUNT-DECR, DST-RES, SINGLE}
 use Rattle.copy_residues.specs.Residues.{halvesWord, step, incrLow, incrHigh, decrLow, decrHigh, resLow, resHigh, gapLow, gapHigh}

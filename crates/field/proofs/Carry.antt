@@ -5,7 +5,7 @@ use Prim.Native.Nat.{ℕ, _+_, _*_, _/_, _^_, _<_}
 use native.Mathlib.Omega.{arith}
 use Rattle.field.specs.Field.{p, addP, subP, mulP, bitP}
 use Rattle.field.specs.Constants.{inv32}
-use Rattle.field.specs.Carry.{carryP, carryLow, carryHigh}
+use Rattle.field.specs.Carries.{carryP, carryLow, carryHigh}
 use Rattle.field.specs.Theorems.{Word, fromWords}
 use Rattle.field.proofs.Laws.{sub-below, mul-below, bit-zero, mulP-assoc, mulP-one, mulP-small}
 use Rattle.field.proofs.Bits.{bit-of-zero}

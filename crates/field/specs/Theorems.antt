@@ -4,7 +4,7 @@ use mathlib.Core.Path.{_≡_}
 use mathlib.Core.Logic.{_⊎_, _↔_}
 use Prim.Native.Nat.{ℕ, _+_, _*_, _^_, _<_, _∣_}
 use Rattle.field.specs.Field.{p, mulP, bitP}
-use Rattle.field.specs.Carry.{carryP, carryLow, carryHigh}
+use Rattle.field.specs.Carries.{carryP, carryLow, carryHigh}
 
 -- above 1, and no number between 1 and it divides it
 pub record Prime (n : ℕ) : Type 0 where
