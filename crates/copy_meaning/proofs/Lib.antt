@@ -6,3 +6,9 @@ pub mod Sums
 pub mod Plain
 pub mod PlainOfZero
 pub mod ZeroOfPlain
+pub mod Flags
+pub mod RowOfPlain
+pub mod ReadBack
+pub mod MadeRange
+pub mod PlainOfRow
+pub mod RowIff
