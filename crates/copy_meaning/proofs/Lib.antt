@@ -1,0 +1,14 @@
+pub mod Check
+pub mod Equations
+pub mod Columns
+pub mod Borrow
+pub mod Sums
+pub mod Plain
+pub mod PlainOfZero
+pub mod ZeroOfPlain
+pub mod Flags
+pub mod RowOfPlain
+pub mod ReadBack
+pub mod MadeRange
+pub mod PlainOfRow
+pub mod RowIff
