@@ -1,10 +1,11 @@
 -- What being in range says of the columns, group by group: words, halves, bytes, elements; and the numbers that the shared parts of the
 -- residues stand for in such a row. Document 01: "VALUE below 256, WL columns words, HL columns halves". Assumes nothing.
-use mathlib.Core.Path.{_≡_, refl, ap}
-use mathlib.Core.List.{List}
+use mathlib.Core.Path.{_≡_, refl, ap, subst}
+use mathlib.Core.List.{List, [], _∷_}
 use Prim.Native.Nat.{ℕ, zero, suc, _+_, _-_, _*_, _^_, _<_}
 use native.Mathlib.Omega.{arith}
 use lib.Dec.{lit<}
+use lib.ListN.{length}
 use Rattle.field.specs.Field.{p, addP, mulP}
 use Rattle.field.proofs.Laws.{mulP-small}
 use Rattle.copy_row.specs.Columns.{at, TIMESTAMP, SRC, SRC-INCR, DST, DST-INCR, COUNT, COUNT-DECR, DST-RES, SINGLE}
@@ -12,6 +13,18 @@ use Rattle.copy_residues.specs.Range.{columnLimits}
 use Rattle.copy_residues.specs.Residues.{halvesWord, step}
 use Rattle.copy_meaning.specs.RowIff.{InRange}
 use Rattle.copy_meaning.specs.ReadRow.{wordsAt, halvesAt}
+
+-- a list is its numbers one by one, and a row its 41 columns
+abbrev pub upTo : ℕ → (ℕ → ℕ) → List ℕ
+upTo zero v = []
+upTo (suc n) v = v 0 ∷ upTo n (λ c. v (suc c))
+
+up-to : (l : List ℕ) → l ≡ upTo (length l) (at l)
+up-to [] = refl
+up-to (x ∷ xs) = ap (λ t. x ∷ t) (up-to xs)
+
+pub columns-of : (l : List ℕ) (n : ℕ) → length l ≡ n → l ≡ upTo n (at l)
+columns-of l n wide = subst (λ (n : ℕ). l ≡ upTo n (at l)) wide (up-to l)
 
 -- two words, four halves from column c on
 pub record TwoWords (row : List ℕ) (c : ℕ) : Type 0 where

@@ -1,25 +1,25 @@
 -- The row of a record that meets the conditions of its step says what Plain says: its columns are read back as the record's numbers, and
 -- the conditions, live or dead, come to the same few inequalities. Assumes nothing.
-use mathlib.Core.Path.{_≡_, refl, sym, ap, _∙_, subst}
-use mathlib.Core.Bool.{Bool, cond, not, _&&_}
-use mathlib.Core.List.{List, [], _∷_}
+use mathlib.Core.Path.{_≡_, refl, sym, ap, _∙_}
+use mathlib.Core.Bool.{cond, not, _&&_}
+use mathlib.Core.List.{List}
 use mathlib.Core.Logic.{_⊎_, inl, inr}
-use Prim.Native.Nat.{ℕ, zero, suc, _+_, _-_, _*_, _%_, _^_, _≤_, _<_}
+use Prim.Native.Nat.{ℕ, zero, suc, _+_, _-_, _*_, _^_, _≤_, _<_}
 use native.Mathlib.Omega.{arith}
 use lib.Dec.{eqb}
-use lib.ListN.{length, getD, take, drop, replicate, getD-replicate}
+use lib.ListN.{getD, take, drop, replicate, getD-replicate}
 use lib.Seq.{getD-take, getD-drop}
 use Rattle.words.specs.Words.{wrapAdd, wrapSub}
 use Rattle.words.proofs.Wrap.{sub-plain, sub-wrapped}
-use Rattle.copy_row.specs.Columns.{at, VALUE, SRC, SRC-INCR, DST, DST-INCR, COUNT, COUNT-DECR, DST-RES, FIRST, END, SINGLE, IS-SET, IS-WRITE, FIRST-WRITE, MU, MU-COM, MU-COM-WIDE}
-use Rattle.copy_row.specs.Calls.{Call, Piece, Op, eightAt}
-use Rattle.copy_row.specs.Rows.{bit, wrapped, dstRes, muCom, rowOf}
-use Rattle.copy_meaning.specs.Steps.{Words, PieceOk, Move, empty, ends, more, LiveStep, DeadStep, RowStep}
-use Rattle.copy_meaning.specs.ReadRow.{wordsAt, halvesAt, kindAt}
+use Rattle.copy_row.specs.Columns.{at, VALUE, SRC, DST, COUNT, FIRST, END, SINGLE, IS-SET, IS-WRITE, FIRST-WRITE, MU, MU-COM, MU-COM-WIDE}
+use Rattle.copy_row.specs.Calls.{Op}
+use Rattle.copy_row.specs.Rows.{bit, dstRes, muCom, rowOf}
+use Rattle.copy_meaning.specs.Steps.{Words, PieceOk, Move, empty, ends, more, RowStep}
+use Rattle.copy_meaning.specs.ReadRow.{wordsAt}
 use Rattle.copy_meaning.specs.RowIff.{InRange}
 use Rattle.copy_meaning.proofs.Flags.{bit-below-two, first-write-test, res-test, mu-com-test, wide-test}
 use Rattle.copy_meaning.proofs.Plain.{Plain, widthAt, emptyAt}
-use Rattle.copy_meaning.proofs.ReadBack.{value-back, src-back, dst-back, count-back, src-incr-back, dst-incr-back, count-decr-back, dst-res-back, kind-read, width-read}
+use Rattle.copy_meaning.proofs.ReadBack.{eight-back, src-back, dst-back, count-back, src-incr-back, dst-incr-back, count-decr-back, dst-res-back, kind-read, width-read}
 use Rattle.copy_meaning.proofs.MadeRange.{made-range}
 
 -- ---- both steps in one
@@ -169,7 +169,7 @@ module _ (gap mu : ℕ) (o : Op) (f : Facts gap mu o) where
 
   tail-is : o .piece .width ≡ 1 → take 7 (drop 3 row) ≡ replicate 7 0
   unfolding rowOf
-  tail-is e = ap (drop 1) (value-back (o .piece .value) (f .piece .eight)) ∙ f .piece .tail e
+  tail-is e = ap (drop 1) (eight-back (o .piece .value) (f .piece .eight)) ∙ f .piece .tail e
 
   -- ---- the numbers
 

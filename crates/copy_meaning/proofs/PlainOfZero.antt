@@ -1,16 +1,15 @@
 -- A row in range whose equations hold says what Plain says. Bits and open gates come from p being prime, sums from the carry law, and the
 -- borrow is 1 exactly where the count is 0. Assumes nothing.
-use mathlib.Core.Path.{_≡_, refl, sym, ap, _∙_}
+use mathlib.Core.Path.{_≡_, refl, ap, _∙_}
 use mathlib.Core.List.{List}
 use Prim.Native.Nat.{ℕ, zero, suc, _+_, _-_, _*_, _%_, _^_, _≤_, _<_}
 use native.Mathlib.Nat.{mul-comm}
 use native.Mathlib.Omega.{arith}
 use lib.Dec.{lit<}
-use Rattle.field.specs.Field.{p, addP, subP, mulP, bitP}
-use Rattle.field.proofs.Laws.{add-below, sub-below, mul-below, bit-below, sub-zero, subP-small, mulP-comm, mulP-one}
+use Rattle.field.specs.Field.{addP, subP, mulP, bitP}
+use Rattle.field.proofs.Laws.{add-below, sub-below, mul-below, bit-below, sub-zero, subP-small, mulP-comm}
 use Rattle.field.proofs.Bits.{bit-of-zero, gate, not-both, implies, bit-mulP, bit-complement}
 use Rattle.copy_row.specs.Columns.{at, VALUE, SRC, SRC-INCR, DST, DST-INCR, COUNT, COUNT-DECR, DST-RES, FIRST, END, SINGLE, IS-SET, IS-WRITE, FIRST-WRITE, MU, MU-COM, MU-COM-WIDE}
-use Rattle.copy_residues.specs.Range.{columnLimits}
 use Rattle.copy_residues.specs.Residues.{halvesWord, step, incrHigh, decrHigh, resLow, resHigh, gapLow, gapHigh, borrow, impliesMu, oneHot, firstWrite, gatedBit, dstResNonWrite, singleLane, borrowImplies, borrowImpliesZero, endImplies, muComIs, muComWideIs, noWrap, gapNoWrap}
 use Rattle.copy_meaning.specs.RowIff.{InRange}
 use Rattle.copy_meaning.specs.ReadRow.{wordsAt, halvesAt}
@@ -19,6 +18,7 @@ use Rattle.copy_meaning.proofs.Equations.{Equations}
 use Rattle.copy_meaning.proofs.Columns.{src-words, dst-words, count-words, src-halves, dst-halves, count-halves, res-halves, words-below, halves-below, words-of, step-width}
 use Rattle.copy_meaning.proofs.Borrow.{borrow-carry}
 use Rattle.copy_meaning.proofs.Sums.{Sum, incr-sum, decr-sum, res-sum, gap-sum}
+use Rattle.copy_meaning.proofs.Flags.{live-product}
 use Rattle.copy_meaning.proofs.Plain.{Plain, widthAt, emptyAt}
 
 -- ---- on numbers
@@ -49,11 +49,6 @@ res-of d n r zero k hw hd hr f g = omega (arith, g refl)
 res-of d n r (suc zero) k hw hd hr f g = omega (arith, f refl)
 res-of d n r (suc (suc w)) k hw hd hr f g = absurd (omega arith)
 
--- (m - b) w for a bit w at most m
-gated-bit : (m b w : ℕ) → m < 2 → w ≤ m → (m - b) * w ≡ (1 - b) * w
-gated-bit m b zero hm hw = omega arith
-gated-bit m b (suc w) hm hw = ap (λ x. (x - b) * suc w) (omega arith)
-
 module _ (gap : ℕ) (row : List ℕ) (g : gap < 2 ^ 32) (range : InRange row) (e : Equations gap row) where
   first : at row FIRST < 2
   first = bit-of-zero (at row FIRST) (range-elements row range FIRST (lit< tt)) (e .first)
@@ -80,9 +75,11 @@ module _ (gap : ℕ) (row : List ℕ) (g : gap < 2 ^ 32) (range : InRange row) (
   kinds : at row IS-SET + at row IS-WRITE ≤ at row MU
   unfolding impliesMu oneHot
   kinds =
-      omega
-      ( arith, not-both (at row IS-SET) (at row IS-WRITE) is-set is-write (e .one-hot)
-      , both-le (at row IS-SET) (at row IS-WRITE) (at row MU) is-set is-write mu (e .kinds-live))
+      omega (
+        arith,
+        not-both (at row IS-SET) (at row IS-WRITE) is-set is-write (e .one-hot),
+        both-le (at row IS-SET) (at row IS-WRITE) (at row MU) is-set is-write mu (e .kinds-live),
+      )
 
   src : Sum (wordsAt row SRC) (widthAt row) (halvesAt row SRC-INCR) (incrHigh row SRC)
   src = incr-sum row SRC (src-words row range) (src-halves row range) single (e .src-low) (e .src-high)
@@ -107,9 +104,11 @@ module _ (gap : ℕ) (row : List ℕ) (g : gap < 2 ^ 32) (range : InRange row) (
   unfolding borrowImpliesZero
   borrow-zero l =
       let w = count-words row range in
-      omega
-      ( arith, gate (borrow row) (at row COUNT) (omega (arith, count .bit)) (omega arith) l (e .zero-low)
-      , gate (borrow row) (at row (COUNT + 1)) (omega (arith, count .bit)) (omega arith) l (e .zero-high))
+      omega (
+        arith,
+        gate (borrow row) (at row COUNT) (omega (arith, count .bit)) (omega arith) l (e .zero-low),
+        gate (borrow row) (at row (COUNT + 1)) (omega (arith, count .bit)) (omega arith) l (e .zero-high),
+      )
 
   empty : borrow row ≡ emptyAt row
   empty =
@@ -131,10 +130,12 @@ module _ (gap : ℕ) (row : List ℕ) (g : gap < 2 ^ 32) (range : InRange row) (
       let w = count-words row range in
       let s = step-width row single in
       let l = open-last (at row END) (borrow row) h k in
-      omega
-      ( arith, gate (mulP (at row END) (subP 1 (borrow row))) (at row (COUNT + 1)) (mul-below _ _) (omega arith) l (e .last-high)
-      , sub-zero (at row COUNT) (step row) (omega arith) (omega arith)
-        (gate (mulP (at row END) (subP 1 (borrow row))) (subP (at row COUNT) (step row)) (mul-below _ _) (sub-below _ _) l (e .last-low)))
+      omega (
+        arith,
+        gate (mulP (at row END) (subP 1 (borrow row))) (at row (COUNT + 1)) (mul-below _ _) (omega arith) l (e .last-high),
+        sub-zero (at row COUNT) (step row) (omega arith) (omega arith)
+            (gate (mulP (at row END) (subP 1 (borrow row))) (subP (at row COUNT) (step row)) (mul-below _ _) (sub-below _ _) l (e .last-low)),
+      )
 
   last : wordsAt row COUNT + 2 ^ 64 * at row END ≤ widthAt row + 2 ^ 64
   last = go (at row END) refl (borrow row) refl
@@ -171,21 +172,22 @@ module _ (gap : ℕ) (row : List ℕ) (g : gap < 2 ^ 32) (range : InRange row) (
       let t = words-of row DST-RES (res-halves row range) in
       let w = dst-words row range in
       let l = bit-complement (at row IS-WRITE) is-write in
-      omega
-      ( arith
-      , sub-zero (halvesWord row DST-RES) (at row DST) (omega arith) (omega arith)
-        (gate (subP 1 (at row IS-WRITE)) (subP (halvesWord row DST-RES) (at row DST)) (sub-below _ _) (sub-below _ _) (omega arith) (e .same-low))
-      , sub-zero (halvesWord row (DST-RES + 2)) (at row (DST + 1)) (omega arith) (omega arith)
-        (gate (subP 1 (at row IS-WRITE)) (subP (halvesWord row (DST-RES + 2)) (at row (DST + 1))) (sub-below _ _) (sub-below _ _) (omega arith)
-          (e .same-high)))
+      omega (
+        arith,
+        sub-zero (halvesWord row DST-RES) (at row DST) (omega arith) (omega arith)
+            (gate (subP 1 (at row IS-WRITE)) (subP (halvesWord row DST-RES) (at row DST)) (sub-below _ _) (sub-below _ _) (omega arith) (e .same-low)),
+        sub-zero (halvesWord row (DST-RES + 2)) (at row (DST + 1)) (omega arith) (omega arith)
+            (gate (subP 1 (at row IS-WRITE)) (subP (halvesWord row (DST-RES + 2)) (at row (DST + 1))) (sub-below _ _) (sub-below _ _) (omega arith)
+            (e .same-high)),
+      )
 
   -- a Set
   gapped : at row IS-SET ≡ 1 → wordsAt row DST ≡ wordsAt row SRC + gap
   unfolding gatedBit gapNoWrap
   gapped h =
       let sum = gap-sum gap row g (src-words row range) (dst-words row range)
-          (gate (at row IS-SET) (bitP (gapLow gap row)) (omega arith) (bit-below _) (omega arith) (e .gap-low))
-          (gate (at row IS-SET) (bitP (gapHigh gap row)) (omega arith) (bit-below _) (omega arith) (e .gap-high)) in
+      (gate (at row IS-SET) (bitP (gapLow gap row)) (omega arith) (bit-below _) (omega arith) (e .gap-low))
+      (gate (at row IS-SET) (bitP (gapHigh gap row)) (omega arith) (bit-below _) (omega arith) (e .gap-high)) in
       omega (arith, gate (at row IS-SET) (gapHigh gap row) (omega arith) (omega (arith, sum .bit)) (omega arith) (e .gap-free))
 
   tail : at row SINGLE ≡ 1 → (c : ℕ) → VALUE < c → c < SRC → at row c ≡ 0
@@ -206,7 +208,7 @@ module _ (gap : ℕ) (row : List ℕ) (g : gap < 2 ^ 32) (range : InRange row) (
       sub-zero (at row MU-COM) (mulP (subP (at row MU) (borrow row)) (at row IS-WRITE)) (range-elements row range MU-COM (lit< tt)) (mul-below _ _) (e .mu-com)
       ∙ bit-mulP (subP (at row MU) (borrow row)) (at row IS-WRITE) (omega (arith, moving, mu)) (omega (arith, is-write))
       ∙ ap (λ x. x * at row IS-WRITE) moving
-      ∙ gated-bit (at row MU) (borrow row) (at row IS-WRITE) mu (omega (arith, kinds))
+      ∙ live-product (at row MU) (borrow row) (at row IS-WRITE) mu (omega (arith, kinds))
       ∙ ap (λ x. (1 - x) * at row IS-WRITE) empty
 
   mu-com-wide : at row MU-COM-WIDE ≡ at row MU-COM * (1 - at row SINGLE)

@@ -1,6 +1,6 @@
 -- A row in range that says what Plain says meets every equation: its carries are those of the plain sums, and each gate is shut or what
 -- stands behind it is 0. Assumes nothing.
-use mathlib.Core.Path.{_≡_, refl, sym, ap, _∙_}
+use mathlib.Core.Path.{_≡_, sym, ap, _∙_}
 use mathlib.Core.List.{List}
 use Prim.Native.Nat.{ℕ, zero, suc, _+_, _-_, _*_, _/_, _%_, _^_, _≤_, _<_}
 use native.Mathlib.Nat.{mul-comm, mul-one}
@@ -9,7 +9,7 @@ use lib.Dec.{lit<}
 use Rattle.field.specs.Field.{p, addP, subP, mulP, bitP}
 use Rattle.field.proofs.Laws.{mul-below, bit-zero, sub-same, subP-small, mulP-comm}
 use Rattle.field.proofs.Bits.{gate-zero, not-both-zero, implies-zero, bit-mulP, bit-complement}
-use Rattle.copy_row.specs.Columns.{at, VALUE, SRC, SRC-INCR, DST, DST-INCR, COUNT, COUNT-DECR, DST-RES, FIRST, END, SINGLE, IS-SET, IS-WRITE, FIRST-WRITE, MU, MU-COM, MU-COM-WIDE}
+use Rattle.copy_row.specs.Columns.{at, SRC, SRC-INCR, DST, DST-INCR, COUNT, COUNT-DECR, DST-RES, FIRST, END, SINGLE, IS-SET, IS-WRITE, FIRST-WRITE, MU, MU-COM, MU-COM-WIDE}
 use Rattle.copy_residues.specs.Residues.{halvesWord, step, incrLow, incrHigh, decrLow, decrHigh, resLow, resHigh, gapLow, gapHigh, borrow, impliesMu, oneHot, firstWrite, gatedBit, dstResNonWrite, singleLane, borrowImplies, borrowImpliesZero, endImplies, muComIs, muComWideIs, noWrap, gapNoWrap}
 use Rattle.copy_meaning.specs.RowIff.{InRange}
 use Rattle.copy_meaning.specs.ReadRow.{wordsAt, halvesAt}
@@ -18,6 +18,7 @@ use Rattle.copy_meaning.proofs.Equations.{Equations}
 use Rattle.copy_meaning.proofs.Columns.{src-words, dst-words, count-words, src-halves, dst-halves, count-halves, res-halves, words-below, words-of, step-width}
 use Rattle.copy_meaning.proofs.Borrow.{borrow-carry}
 use Rattle.copy_meaning.proofs.Sums.{Sum, Carried, incr-carried, decr-carried, res-carried, gap-carried}
+use Rattle.copy_meaning.proofs.Flags.{live-product}
 use Rattle.copy_meaning.proofs.Plain.{Plain, widthAt, emptyAt}
 
 -- ---- on numbers
@@ -32,10 +33,6 @@ opened (suc zero) zero he hb h = omega arith
 opened (suc zero) (suc zero) he hb h = absurd (omega arith)
 opened (suc zero) (suc (suc b)) he hb h = absurd (omega arith)
 opened (suc (suc e)) b he hb h = absurd (omega arith)
-
-gated-bit : (m b w : ℕ) → m < 2 → w ≤ m → (1 - b) * w ≡ (m - b) * w
-gated-bit m b zero hm hw = omega arith
-gated-bit m b (suc w) hm hw = ap (λ x. (x - b) * suc w) (omega arith)
 
 -- a wrapped sum with its carry
 wrapped-sum : (a b r : ℕ) → a < 2 ^ 64 → b < 2 ^ 64 → r ≡ (a + b) % 2 ^ 64 → Sum a b r ((a + b) / 2 ^ 64)
@@ -94,7 +91,7 @@ module _ (gap : ℕ) (row : List ℕ) (g : gap < 2 ^ 32) (range : InRange row) (
       let o = opened (at row END) (borrow row) end borrows l in
       let w = step-width row (q .single) in
       let n = last-words (at row COUNT) (at row (COUNT + 1)) (halvesAt row COUNT-DECR) (widthAt row) (count-words row range .low) (omega arith)
-          (omega (arith, q .count, empty)) (omega (arith, q .last)) in
+      (omega (arith, q .count, empty)) (omega (arith, q .last)) in
       (n .0, n .1 ∙ sym w)
 
   moving : subP (at row MU) (borrow row) ≡ at row MU - emptyAt row
@@ -131,7 +128,7 @@ module _ (gap : ℕ) (row : List ℕ) (g : gap < 2 ^ 32) (range : InRange row) (
   mu-com : at row MU-COM ≡ mulP (subP (at row MU) (borrow row)) (at row IS-WRITE)
   mu-com =
       q .mu-com
-      ∙ gated-bit (at row MU) (emptyAt row) (at row IS-WRITE) (q .mu) (omega (arith, q .kinds))
+      ∙ sym (live-product (at row MU) (emptyAt row) (at row IS-WRITE) (q .mu) (omega (arith, q .kinds)))
       ∙ ap (λ x. x * at row IS-WRITE) (sym moving)
       ∙ sym (bit-mulP (subP (at row MU) (borrow row)) (at row IS-WRITE) (omega (arith, moving, q .mu)) (omega (arith, is-write)))
 
