@@ -16,7 +16,7 @@ use Rattle.field.specs.Carries.{carryLow}
 use Rattle.field.proofs.Laws.{add-below, sub-below, bit-below, bit-zero, sub-zero, sub-same, addP-small, subP-zero}
 use Rattle.field.proofs.Bits.{bit-of-zero, gate, gate-zero}
 use Rattle.field.proofs.Carry.{carry-below, carry-of-bit, carry-value}
-use Rattle.copy_row.specs.Columns.{at, DST, COUNT, DST-RES, FIRST, IS-WRITE, MU, COLUMNS}
+use Rattle.copy_row.specs.Columns.{at, TIMESTAMP, VALUE, SRC, DST, COUNT, DST-RES, FIRST, END, SINGLE, IS-SET, IS-WRITE, MU, COLUMNS}
 use Rattle.copy_row.specs.Rows.{rowOf, tableRow}
 use Rattle.copy_residues.specs.Range.{columnLimits}
 use Rattle.copy_residues.specs.Residues.{halvesWord, resLow, gatedBit, dstResNonWrite, residue, RESIDUES}
@@ -190,34 +190,32 @@ call-row gap o row h = go (h .same)
 -- the record read off a row does not look at DST_RES
 same-op : (row other : List ℕ) → BesidesDstRes row other → opAt row ≡ opAt other
 same-op row other b =
-    let low : (c : ℕ) → c < DST-RES → at row c ≡ at other c = λ c h. b c (inl h) in
-    let high : (c : ℕ) → FIRST ≤ c → at row c ≡ at other c = λ c h. b c (inr h) in
     λ i.
     record {
       call =
           record {
-            kind = high 35 (lit≤ tt) i + 2 * high 36 (lit≤ tt) i;
-            stamp = low 0 (lit< tt) i + 2 ^ 32 * low 1 (lit< tt) i;
-            src = low 10 (lit< tt) i + 2 ^ 32 * low 11 (lit< tt) i;
-            dst = low 16 (lit< tt) i + 2 ^ 32 * low 17 (lit< tt) i;
-            count = low 22 (lit< tt) i + 2 ^ 32 * low 23 (lit< tt) i;
+            kind = b IS-SET (inr (lit≤ tt)) i + 2 * b IS-WRITE (inr (lit≤ tt)) i;
+            stamp = b TIMESTAMP (inl (lit< tt)) i + 2 ^ 32 * b (TIMESTAMP + 1) (inl (lit< tt)) i;
+            src = b SRC (inl (lit< tt)) i + 2 ^ 32 * b (SRC + 1) (inl (lit< tt)) i;
+            dst = b DST (inl (lit< tt)) i + 2 ^ 32 * b (DST + 1) (inl (lit< tt)) i;
+            count = b COUNT (inl (lit< tt)) i + 2 ^ 32 * b (COUNT + 1) (inl (lit< tt)) i;
           };
       piece =
           record {
-            width = 8 - 7 * high 34 (lit≤ tt) i;
+            width = 8 - 7 * b SINGLE (inr (lit≤ tt)) i;
             value =
-                low 2 (lit< tt) i
-                ∷ low 3 (lit< tt) i
-                ∷ low 4 (lit< tt) i
-                ∷ low 5 (lit< tt) i
-                ∷ low 6 (lit< tt) i
-                ∷ low 7 (lit< tt) i
-                ∷ low 8 (lit< tt) i
-                ∷ low 9 (lit< tt) i
+                b VALUE (inl (lit< tt)) i
+                ∷ b (VALUE + 1) (inl (lit< tt)) i
+                ∷ b (VALUE + 2) (inl (lit< tt)) i
+                ∷ b (VALUE + 3) (inl (lit< tt)) i
+                ∷ b (VALUE + 4) (inl (lit< tt)) i
+                ∷ b (VALUE + 5) (inl (lit< tt)) i
+                ∷ b (VALUE + 6) (inl (lit< tt)) i
+                ∷ b (VALUE + 7) (inl (lit< tt)) i
                 ∷ [];
           };
-      first = high 32 (lit≤ tt) i;
-      end = high 33 (lit≤ tt) i;
+      first = b FIRST (inr (lit≤ tt)) i;
+      end = b END (inr (lit≤ tt)) i;
     }
 
 pub one-filling : OneFilling

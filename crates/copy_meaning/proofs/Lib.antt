@@ -10,6 +10,7 @@ pub mod Columns
 pub mod Sums
 pub mod Borrow
 pub mod Flags
+pub mod StepFacts
 pub mod PlainOfZero
 pub mod ZeroOfPlain
 pub mod RowOfPlain

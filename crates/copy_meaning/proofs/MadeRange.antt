@@ -1,5 +1,5 @@
--- The row of a record with a good piece is in range, whatever its call, column group by column group: digits are below their base, whatever the width.
--- Assumes nothing.
+-- The row of a record with a good piece is in range, whatever its call: digits are below their base, whatever the width, and flags are
+-- elements. Assumes nothing.
 use mathlib.Core.Path.{_≡_, sym, subst}
 use mathlib.Core.Bool.{Bool, true, false, cond, _&&_}
 use mathlib.Core.List.{List, [], _∷_, _++_}

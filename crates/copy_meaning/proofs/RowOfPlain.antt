@@ -4,7 +4,7 @@ use mathlib.Core.Path.{_≡_, refl, ap, _∙_}
 use mathlib.Core.Bool.{_&&_}
 use mathlib.Core.List.{List, [], _∷_, _++_}
 use mathlib.Core.Logic.{_⊎_, inl, inr}
-use Prim.Native.Nat.{ℕ, zero, suc, _+_, _-_, _*_, _%_, _^_, _≤_, _<_}
+use Prim.Native.Nat.{ℕ, zero, suc, _+_, _-_, _*_, _%_, _^_, _<_}
 use native.Mathlib.Omega.{arith}
 use lib.Dec.{lit<, eqb}
 use lib.ListN.{length}
@@ -15,11 +15,12 @@ use Rattle.copy_row.specs.Columns.{at, TIMESTAMP, VALUE, SRC, SRC-INCR, DST, DS
 use Rattle.copy_row.specs.Calls.{eightAt}
 use Rattle.copy_row.specs.Rows.{bit, dstRes, muCom, rowOf}
 use Rattle.copy_residues.specs.Range.{columnLimits}
-use Rattle.copy_meaning.specs.Steps.{Words, PieceOk, Move, empty, ends, more, RowStep}
+use Rattle.copy_meaning.specs.Steps.{Words, PieceOk, RowStep}
 use Rattle.copy_meaning.specs.ReadRow.{wordsAt, halvesAt, callAt, opAt}
 use Rattle.copy_meaning.specs.RowIff.{InRange}
 use Rattle.copy_meaning.proofs.Columns.{TwoWords, FourHalves, columns-of, stamp-words, src-words, dst-words, count-words, src-halves, dst-halves, count-halves, res-halves, words-below, halves-below}
 use Rattle.copy_meaning.proofs.Flags.{single-test, set-test, write-test, first-write-test, res-test, mu-com-test, wide-test}
+use Rattle.copy_meaning.proofs.StepFacts.{StepFacts, step-of-facts}
 use Rattle.copy_meaning.proofs.Plain.{Plain, widthAt, emptyAt}
 
 -- the columns of a number are its words, its halves
@@ -143,38 +144,23 @@ module _ (gap : ℕ) (row : List ℕ) (wide : length row ≡ COLUMNS) (range : I
             ∷ [];
       }
 
-  -- a row that is not empty has enough left
-  enough : emptyAt row ≡ 0 → widthAt row ≤ wordsAt row COUNT
-  enough e = omega (arith, q .count)
-
-  move : at row MU ≡ 1 → Move (opAt row)
-  move live = go (emptyAt row) refl (at row END) refl
-    where
-      go : (b : ℕ) → emptyAt row ≡ b → (x : ℕ) → at row END ≡ x → Move (opAt row)
-      go zero e zero f = more f (enough e) (omega (arith, q .src-free)) (omega (arith, q .dst-free))
-      go zero e (suc x) f =
-          ends (omega (arith, q .end)) (omega (arith, q .last, q .end, enough e)) (omega (arith, q .src-free)) (omega (arith, q .dst-free))
-      go (suc b) e x f = empty (omega arith) (omega (arith, q .empty-first, q .first)) (omega (arith, q .empty-end, q .end))
-
-  step : (m : ℕ) → at row MU ≡ m → RowStep gap m (opAt row)
-  step zero e =
+  facts : StepFacts gap (at row MU) (opAt row)
+  facts =
       record {
         words = fitting;
         piece = piece;
+        live = q .mu;
+        first = q .first;
+        end = q .end;
         kind = omega (arith, q .kinds);
-        first = omega (arith, q .first);
-        end = omega (arith, q .end);
-        enough = enough (omega (arith, q .empty-first, q .first));
+        gapped = λ e. q .gapped (omega (arith, one));
+        src-free = q .src-free;
+        dst-free = q .dst-free;
+        enough = omega (arith, q .count);
+        empty-first = q .empty-first;
+        empty-end = q .empty-end;
+        last = q .last;
       }
-  step (suc zero) e =
-      record {
-        words = fitting;
-        gapped = λ k. q .gapped (omega (arith, one));
-        piece = piece;
-        bits = omega (arith, q .first);
-        move = move e;
-      }
-  step (suc (suc m)) e = absurd (omega (arith, q .mu))
 
   pub row-step : RowStep gap (at row MU) (opAt row)
-  row-step = step (at row MU) refl
+  row-step = step-of-facts gap (at row MU) (opAt row) facts
