@@ -14,11 +14,10 @@ use Rattle.words.proofs.Digits.{words-two, halves-four}
 use Rattle.copy_row.specs.Columns.{at, TIMESTAMP, VALUE, SRC, SRC-INCR, DST, DST-INCR, COUNT, COUNT-DECR, DST-RES, FIRST, END, SINGLE, IS-SET, IS-WRITE, MU, MU-COM, MU-COM-WIDE, COLUMNS}
 use Rattle.copy_row.specs.Calls.{eightAt}
 use Rattle.copy_row.specs.Rows.{bit, dstRes, muCom, rowOf}
-use Rattle.copy_residues.specs.Range.{columnLimits}
 use Rattle.copy_meaning.specs.Steps.{Words, PieceOk, RowStep}
 use Rattle.copy_meaning.specs.ReadRow.{wordsAt, halvesAt, callAt, opAt}
 use Rattle.copy_meaning.specs.RowIff.{InRange}
-use Rattle.copy_meaning.proofs.Columns.{TwoWords, FourHalves, columns-of, stamp-words, src-words, dst-words, count-words, src-halves, dst-halves, count-halves, res-halves, words-below, halves-below}
+use Rattle.copy_meaning.proofs.Columns.{TwoWords, FourHalves, columns-of, stamp-words, src-words, dst-words, count-words, src-halves, dst-halves, count-halves, res-halves, value-bytes, words-below, halves-below}
 use Rattle.copy_meaning.proofs.Flags.{single-test, set-test, write-test, first-write-test, res-test, mu-com-test, wide-test}
 use Rattle.copy_meaning.proofs.StepFacts.{StepFacts, step-of-facts}
 use Rattle.copy_meaning.proofs.Plain.{Plain, widthAt, emptyAt}
@@ -115,32 +114,22 @@ module _ (gap : ℕ) (row : List ℕ) (wide : length row ≡ COLUMNS) (range : I
       }
 
   piece : PieceOk (opAt row .piece)
-  unfolding columnLimits
   piece =
       record {
         wide = width-cases (at row SINGLE) (q .single);
         eight = refl;
-        bytes = (
-          range 2 (lit< tt),
-          (
-            range 3 (lit< tt),
-            (
-              range 4 (lit< tt),
-              (range 5 (lit< tt), (range 6 (lit< tt), (range 7 (lit< tt), (range 8 (lit< tt), (range 9 (lit< tt), tt))))),
-            ),
-          ),
-        );
+        bytes = value-bytes row range;
         tail =
             λ e.
-            let z = q .tail (omega arith) in
+            let zero : (k : ℕ) → 0 < k → k < 8 → at row (VALUE + k) ≡ 0 = λ k l h. q .tail (omega arith) (VALUE + k) (omega arith) (omega arith) in
             λ i.
-            z 3 (lit< tt) (lit< tt) i
-            ∷ z 4 (lit< tt) (lit< tt) i
-            ∷ z 5 (lit< tt) (lit< tt) i
-            ∷ z 6 (lit< tt) (lit< tt) i
-            ∷ z 7 (lit< tt) (lit< tt) i
-            ∷ z 8 (lit< tt) (lit< tt) i
-            ∷ z 9 (lit< tt) (lit< tt) i
+            zero 1 (lit< tt) (lit< tt) i
+            ∷ zero 2 (lit< tt) (lit< tt) i
+            ∷ zero 3 (lit< tt) (lit< tt) i
+            ∷ zero 4 (lit< tt) (lit< tt) i
+            ∷ zero 5 (lit< tt) (lit< tt) i
+            ∷ zero 6 (lit< tt) (lit< tt) i
+            ∷ zero 7 (lit< tt) (lit< tt) i
             ∷ [];
       }
 
