@@ -82,6 +82,25 @@ module _ (limits r : List ℕ) where
   pub above-end : (i : ℕ) → length limits ≤ i → first (above limits r) i (length limits - i) ≡ i
   above-end i h = first-end (above limits r) i (length limits) h
 
+  -- what such a loop answers: the record is cut, a number is above its limit, or none is
+  pub within-cut : (length r ≡ length limits → ⊥) → within limits r ≡ false
+  unfolding within
+  within-cut h = rw (ne-eqb (length r) (length limits) h)
+
+  pub within-stop : (i : ℕ) → length r ≡ length limits → i < length limits → firstAbove limits r ≡ first (above limits r) i (length limits - i)
+      → getD limits i 0 < getD r i 0 → within limits r ≡ false
+  unfolding within
+  within-stop i e h at lt =
+      let q : firstAbove limits r ≡ i = at ∙ above-stop i h lt in
+      rw (eq-eqb (length r) (length limits) e, ne-eqb (firstAbove limits r) (length limits) (λ z. omega arith))
+
+  pub within-end : (i : ℕ) → length r ≡ length limits → i ≡ length limits → firstAbove limits r ≡ first (above limits r) i (length limits - i)
+      → within limits r ≡ true
+  unfolding within
+  within-end i e h at =
+      let q : firstAbove limits r ≡ i = at ∙ above-end i (omega arith) in
+      rw (eq-eqb (length r) (length limits) e, eq-eqb (firstAbove limits r) (length limits) (q ∙ h))
+
 -- Records that a test refuses
 
 abbrev pub badAt : ℕ → (List ℕ → Bool) → List ℕ → ℕ → Bool
