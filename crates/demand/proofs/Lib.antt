@@ -1,0 +1,9 @@
+pub mod MadeRows
+pub mod Fine
+pub mod Verdict
+pub mod RowLists
+pub mod Whole
+pub mod ReadBack
+pub mod Alone
+pub mod Made
+pub mod Demand
