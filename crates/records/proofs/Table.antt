@@ -1,6 +1,6 @@
 -- Laws of tables, for every record width, row width and limit: what a made table says of its input, what each row holds, that numbers
 -- past the rows keep their values, and what a loop needs that fills a table row by row. Assumes nothing.
-use mathlib.Core.Path.{_≡_, refl, sym, ap, _∙_}
+use mathlib.Core.Path.{_≡_, refl, sym, ap}
 use mathlib.Core.Logic.{_≢_}
 use mathlib.Core.Bool.{Bool, true, false, cond}
 use mathlib.Core.List.{List, _++_}
@@ -61,24 +61,27 @@ module _ (limit v n bad room : ℕ) where
   unfolding tableAnswer
   answer-made h b r = rw (le-ltb limit n h, le-ltb bad n b, le-leb (v * rowCount n) room r)
 
+number-same : {x y : Answer} → x ≡ y → x .number ≡ y .number
+number-same e = ap (λ (x : Answer). x .number) e
+
 -- document 01's numbers tell all answers apart
 module _ (over : ℕ) (not-zero : over ≢ 0) (not-nine : over ≢ 9) (not-ten : over ≢ 10) where
   pub numbers-same : (a b : TableAnswer) → tableNumbers over a ≡ tableNumbers over b → a ≡ b
   numbers-same (Made r) (Made s) e = ap Made (ap (λ (x : Answer). x .value) e)
-  numbers-same (Made r) TooManyRecords e = absurd (not-zero (sym (ap (λ (x : Answer). x .number) e)))
-  numbers-same (Made r) (BadRecord k) e = absurd (omega (arith, ap (λ (x : Answer). x .number) e))
-  numbers-same (Made r) BufferShort e = absurd (omega (arith, ap (λ (x : Answer). x .number) e))
-  numbers-same TooManyRecords (Made s) e = absurd (not-zero (ap (λ (x : Answer). x .number) e))
+  numbers-same (Made r) TooManyRecords e = absurd (not-zero (sym (number-same e)))
+  numbers-same (Made r) (BadRecord k) e = absurd (omega (arith, number-same e))
+  numbers-same (Made r) BufferShort e = absurd (omega (arith, number-same e))
+  numbers-same TooManyRecords (Made s) e = absurd (not-zero (number-same e))
   numbers-same TooManyRecords TooManyRecords e = refl
-  numbers-same TooManyRecords (BadRecord k) e = absurd (not-ten (ap (λ (x : Answer). x .number) e))
-  numbers-same TooManyRecords BufferShort e = absurd (not-nine (ap (λ (x : Answer). x .number) e))
-  numbers-same (BadRecord j) (Made s) e = absurd (omega (arith, ap (λ (x : Answer). x .number) e))
-  numbers-same (BadRecord j) TooManyRecords e = absurd (not-ten (sym (ap (λ (x : Answer). x .number) e)))
+  numbers-same TooManyRecords (BadRecord k) e = absurd (not-ten (number-same e))
+  numbers-same TooManyRecords BufferShort e = absurd (not-nine (number-same e))
+  numbers-same (BadRecord j) (Made s) e = absurd (omega (arith, number-same e))
+  numbers-same (BadRecord j) TooManyRecords e = absurd (not-ten (sym (number-same e)))
   numbers-same (BadRecord j) (BadRecord k) e = ap BadRecord (ap (λ (x : Answer). x .place) e)
-  numbers-same (BadRecord j) BufferShort e = absurd (omega (arith, ap (λ (x : Answer). x .number) e))
-  numbers-same BufferShort (Made s) e = absurd (omega (arith, ap (λ (x : Answer). x .number) e))
-  numbers-same BufferShort TooManyRecords e = absurd (not-nine (sym (ap (λ (x : Answer). x .number) e)))
-  numbers-same BufferShort (BadRecord k) e = absurd (omega (arith, ap (λ (x : Answer). x .number) e))
+  numbers-same (BadRecord j) BufferShort e = absurd (omega (arith, number-same e))
+  numbers-same BufferShort (Made s) e = absurd (omega (arith, number-same e))
+  numbers-same BufferShort TooManyRecords e = absurd (not-nine (sym (number-same e)))
+  numbers-same BufferShort (BadRecord k) e = absurd (omega (arith, number-same e))
   numbers-same BufferShort BufferShort e = refl
 
 -- The rows
@@ -93,7 +96,9 @@ module _ (w : ℕ) (row : List ℕ → List ℕ) (padding l : List ℕ) (k : ℕ
   row-padding h = rw (le-ltb k (recordCount w l) h)
 
 -- rows of v numbers: `wide` says so of each record's row, and `wide-padding` of the padding
-module _ (v w : ℕ) (row : List ℕ → List ℕ) (padding : List ℕ) (wide : (r : List ℕ) → length (row r) ≡ v) (wide-padding : length padding ≡ v) (l : List ℕ) where
+module _
+    (v w : ℕ) (row : List ℕ → List ℕ) (padding : List ℕ)
+    (wide : (r : List ℕ) → length (row r) ≡ v) (wide-padding : length padding ≡ v) (l : List ℕ) where
   pub row-length : (k : ℕ) → length (rowAt w row padding l k) ≡ v
   unfolding rowAt
   row-length k = step (ltb k (recordCount w l))

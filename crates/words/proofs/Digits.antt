@@ -3,11 +3,11 @@
 use mathlib.Core.Path.{_≡_, refl, sym, ap, _∙_}
 use mathlib.Core.List.{List, [], _∷_}
 use Prim.Native.Nat.{ℕ, zero, suc, _+_, _*_, _/_, _%_, _^_, _<_}
-use native.Mathlib.Nat.{mul-suc, mul-zero, mul-comm, add-comm, mod-one, mod-lt, mod-eq-of-lt}
+use native.Mathlib.Nat.{mul-suc, mul-zero, mul-comm, add-comm, mod-one, mod-lt, mod-eq-of-lt, div-one, div-div-eq-div-mul}
 use native.Mathlib.Omega.{arith}
 use lib.ListN.{length, getD}
 use lib.Arith.{digits-lt}
-use lib.Pow.{pow-pos, pow-add}
+use lib.Pow.{pow-pos, pow-add, shr-shr}
 use Rattle.words.specs.Words.{digits, number, words, halves, bytes}
 use Rattle.words.proofs.Limbs.{mod-mul, low-limb, high-limb, Two, Four}
 
@@ -60,6 +60,14 @@ number-lt w (d ∷ ds) b =
     let e : d + 2 ^ w * number w ds ≡ number w ds * 2 ^ w + d = add-comm d (2 ^ w * number w ds) ∙ ap (λ t. t + d) (mul-comm (2 ^ w) (number w ds)) in
     rw (mul-suc, pow-add, e) (digits-lt (number-lt w ds (b .1)) (b .0))
 
+-- digit i is what stands there, w * i bits up
+pub digit-at : (w n x i : ℕ) → i < n → getD (digits w n x) i 0 ≡ x / 2 ^ (w * i) % 2 ^ w
+digit-at w zero x i h = absurd (omega arith)
+digit-at w (suc n) x zero h = rw (mul-zero, div-one)
+digit-at w (suc n) x (suc i) h =
+    digit-at w n (x / 2 ^ w) i (omega arith)
+    ∙ ap (λ q. q % 2 ^ w) (shr-shr x w (w * i) ∙ ap (λ e. x / 2 ^ e) (add-comm w (w * i) ∙ sym (mul-suc w i)))
+
 -- Words, halves and bytes of a 64-bit number
 
 module _ (x : ℕ) (fits : x < 2 ^ 64) where
@@ -71,6 +79,27 @@ module _ (x : ℕ) (fits : x < 2 ^ 64) where
 
   pub bytes-whole : number 8 (bytes x) ≡ x
   bytes-whole = number-whole 8 8 x fits
+
+  -- the digits that shifts take
+  pub halves-shifted : x % 2 ^ 16 ∷ x / 2 ^ 16 % 2 ^ 16 ∷ x / 2 ^ 32 % 2 ^ 16 ∷ x / 2 ^ 48 ∷ [] ≡ halves x
+  halves-shifted =
+      let top : x / 2 ^ 48 ≡ x / 2 ^ 48 % 2 ^ 16 = omega arith in
+      simp div-div-eq-div-mul (λ i. x % 2 ^ 16 ∷ x / 2 ^ 16 % 2 ^ 16 ∷ x / 2 ^ 32 % 2 ^ 16 ∷ top i ∷ [])
+
+  pub bytes-shifted : x % 2 ^ 8
+      ∷ x / 2 ^ 8 % 2 ^ 8
+      ∷ x / 2 ^ 16 % 2 ^ 8
+      ∷ x / 2 ^ 24 % 2 ^ 8
+      ∷ x / 2 ^ 32 % 2 ^ 8
+      ∷ x / 2 ^ 40 % 2 ^ 8
+      ∷ x / 2 ^ 48 % 2 ^ 8
+      ∷ x / 2 ^ 56
+      ∷ []
+      ≡ bytes x
+  bytes-shifted =
+      let top : x / 2 ^ 56 ≡ x / 2 ^ 56 % 2 ^ 8 = omega arith in
+      simp div-div-eq-div-mul
+      (λ i. x % 2 ^ 8 ∷ x / 2 ^ 8 % 2 ^ 8 ∷ x / 2 ^ 16 % 2 ^ 8 ∷ x / 2 ^ 24 % 2 ^ 8 ∷ x / 2 ^ 32 % 2 ^ 8 ∷ x / 2 ^ 40 % 2 ^ 8 ∷ x / 2 ^ 48 % 2 ^ 8 ∷ top i ∷ [])
 
 -- two limbs are the words, four are the halves
 pub words-two : (x a0 a1 : ℕ) → Two (2 ^ 32) x a0 a1 → a0 ∷ a1 ∷ [] ≡ words x

@@ -1,5 +1,5 @@
 -- Two and four limbs of a number, lowest first, with the base a parameter: from the number to its limbs and back. Assumes nothing.
-use mathlib.Core.Path.{_≡_, refl, sym, ap, _∙_}
+use mathlib.Core.Path.{_≡_, sym, ap, _∙_}
 use Prim.Native.Nat.{ℕ, _+_, _*_, _%_, _/_, _<_}
 use native.Mathlib.Omega.{arith}
 use native.Mathlib.Nat.{add-mul, mul-assoc, mul-comm, zero-add, div-add-mod', div-div-eq-div-mul, div-eq-of-lt, mod-eq-of-lt, add-mul-mod-self-left, add-mul-div-left}

@@ -1,7 +1,7 @@
 -- Sums and differences modulo 2^64, and the carries of their words: c0 out of the low words, c1 out of the high ones, each a bit.
 -- Document 01: "INCR, DECR and RES are sums taken modulo 2^64, as the Rust's wrapping calls". The carry equations have the plain form
 -- v ≡ s + 2^32 * c that the carry law of the field takes. Assumes nothing.
-use mathlib.Core.Path.{_≡_, refl, sym, ap, _∙_}
+use mathlib.Core.Path.{_≡_, sym, ap, _∙_}
 use Prim.Native.Nat.{ℕ, _+_, _-_, _*_, _/_, _%_, _^_, _≤_, _<_}
 use native.Mathlib.Nat.{add-zero}
 use native.Mathlib.Omega.{arith}

@@ -1,5 +1,5 @@
 -- `records::numbers` meets its contract: each arm of the match is a case of the definition. Assumes nothing.
-use mathlib.Core.Path.{_≡_, sym, ap, _∙_}
+use mathlib.Core.Path.{sym, ap, _∙_}
 use borrow.Author.Needs.{needs}
 use Rattle.records.specs.Table.{tableNumbers}
 use Rattle.records.proofs.numbers.Statement.{statement}

@@ -1,6 +1,6 @@
 -- `records::lists::record_at` meets its contract: the rest of the list where it is shorter than a record, else a part of `w` numbers.
 -- Assumes nothing.
-use mathlib.Core.Path.{_≡_, sym, _∙_}
+use mathlib.Core.Path.{sym, _∙_}
 use Prim.Native.Nat.{_-_, _*_}
 use native.Mathlib.Omega.{arith}
 use borrow.Author.Needs.{needs}

@@ -1,6 +1,6 @@
 -- `records::lists::table_answer` meets its contract, case by case. The product of row width and row count fits, since at most 2^20
 -- records have at most 2^20 rows. Assumes nothing.
-use mathlib.Core.Path.{_≡_, sym, ap, _∙_}
+use mathlib.Core.Path.{sym, ap, _∙_}
 use Prim.Native.Nat.{_*_, _^_, _≤_, _<_}
 use native.Mathlib.Omega.{arith}
 use native.Mathlib.Nat.{mul-le-mul}

@@ -1,0 +1,15 @@
+-- Every starred example holds, by computing. Assumes nothing.
+use mathlib.Core.Path.{refl}
+use Rattle.field.specs.Field.{mulP}
+use Rattle.records.specs.RowCount.{rowCount, doubled}
+use Rattle.examples.specs.Examples.{StarredExamples}
+
+pub starred-examples : StarredExamples
+unfolding mulP rowCount doubled
+starred-examples =
+    record {
+      no-records = refl;
+      five-records = refl;
+      minus-one-squared = refl;
+      word-squared = refl;
+    }

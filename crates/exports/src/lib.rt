@@ -1,0 +1,30 @@
+// The functions that a Rust or C program links, by `rt staticlib exports`. Each is thin: it calls the entry that it is named for and hands
+// its answer on in numbers. A slice passes as a pointer and a length, an array behind a reference as a pointer. Document 01: "callable
+// from the Rust harness, on numbers and slices". docs/CALLING.md says how to call each. Assumes nothing.
+use answer::Answer;
+ghost use mathlib.Core.Path.{_≡_};
+ghost use Rattle.field.specs.Answers.{addAnswer, subAnswer, mulAnswer, fieldNumbers};
+
+// a + b modulo p, or 14.
+#[no_mangle]
+pub extern "C" fn field_add(a: u64, b: u64) -> Answer
+    ensures answer { λ r. ⌜ r ≡ fieldNumbers (addAnswer a b) ⌝ }
+{
+    field::numbers(field::field_add(a, b))
+}
+
+// a - b modulo p, or 14.
+#[no_mangle]
+pub extern "C" fn field_sub(a: u64, b: u64) -> Answer
+    ensures answer { λ r. ⌜ r ≡ fieldNumbers (subAnswer a b) ⌝ }
+{
+    field::numbers(field::field_sub(a, b))
+}
+
+// a * b modulo p, or 14.
+#[no_mangle]
+pub extern "C" fn field_mul(a: u64, b: u64) -> Answer
+    ensures answer { λ r. ⌜ r ≡ fieldNumbers (mulAnswer a b) ⌝ }
+{
+    field::numbers(field::field_mul(a, b))
+}
