@@ -5,5 +5,7 @@ pub mod RowLists
 pub mod Whole
 pub mod ReadBack
 pub mod Alone
+pub mod GoodRecords
 pub mod Made
 pub mod Demand
+pub mod Instances

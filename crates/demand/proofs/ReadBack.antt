@@ -1,7 +1,7 @@
 -- Read-back of a list of whole calls: each live row gives the record that it was made of, and each row with FIRST the call as it was
 -- handed in. Assumes nothing.
 use mathlib.Core.Path.{_≡_, refl, sym, ap, ap₂, _∙_, subst}
-use mathlib.Core.Bool.{Bool, true, false, cond, _&&_}
+use mathlib.Core.Bool.{Bool, true, false, cond, _&&_, and-false}
 use mathlib.Core.List.{List, [], _∷_, _++_, map, append-nil, flatMap}
 use mathlib.Core.Logic.{_⊎_, inl, inr}
 use mathlib.Core.Option.{none}
@@ -9,7 +9,7 @@ use Prim.Native.Nat.{ℕ, zero, suc, _+_, _*_, _/_, _^_, _≤_, _<_}
 use native.Mathlib.Omega.{arith}
 use borrow.Author.Tests.{le-leb, lt-leb}
 use lib.Dec.{eqb, leb}
-use lib.ListN.{length, length-map}
+use lib.ListN.{length}
 use Rattle.records.specs.Lists.{store, picked, counted}
 use Rattle.records.specs.Records.{recordAt}
 use Rattle.records.proofs.Flat.{picked-length}
@@ -80,14 +80,6 @@ module _ (gap : ℕ) where
   calls-read (o ∷ os) s =
       ap₂ (λ (a b : List ℕ). a ++ b) (call-part o (s .0)) (calls-read os (s .1)) ∙ first-part (o .first) (o .call) (firsts os) (s .0 .bits)
 
-  records-wide : (os : List Op) → All (LiveStep gap) os → All (λ (o : Op). length (opRecord o) ≡ OP-WIDTH) os
-  records-wide [] s = tt
-  records-wide (o ∷ os) s = (omega (arith, s .0 .piece .eight), records-wide os (s .1))
-
-calls-wide : (cs : List Call) → All (λ (c : Call). length (callNumbers c) ≡ CALL-WIDTH) cs
-calls-wide [] = tt
-calls-wide (c ∷ cs) = (refl, calls-wide cs)
-
 -- What is read of a list of whole calls
 
 module _ (row-iff : RowIff) (is : CallRowIs) (gap : ℕ) (g : gap < 2 ^ 32) (l : List ℕ) (ks : List CutCall) (w : WholeCalls gap l ks) where
@@ -117,44 +109,40 @@ module _ (row-iff : RowIff) (is : CallRowIs) (gap : ℕ) (g : gap < 2 ^ 32) (l :
       ∙ ap (flatMap callNumbers) (firsts-are ks (all-have-rows gap ks (w .sound)))
 
   -- the counts are those of the numbers written
-  pub count-ops : opsCount l ≡ length (opsOf ks)
-  count-ops =
-      let counted' : length (readOps l) ≡ OP-WIDTH * opsCount l =
-      unfold readOps opsCount in picked-length OP-WIDTH (liveAt l) (λ k. opRecord (opAt (rowAt l k))) (rowsIn l) (λ k h. refl) in
-      omega (
-        arith,
-        counted',
-        ap length read-ops,
-        flatMap-length OP-WIDTH opRecord (opsOf ks) (records-wide gap (opsOf ks) live),
-      )
+  ops-length : length (readOps l) ≡ OP-WIDTH * opsCount l
+  unfolding readOps opsCount
+  ops-length = picked-length OP-WIDTH (liveAt l) (λ k. opRecord (opAt (rowAt l k))) (rowsIn l) (λ k h. refl)
 
-  pub count-calls : callsCount l ≡ length ks
-  count-calls =
-      let counted' : length (readCalls l) ≡ CALL-WIDTH * callsCount l =
-      unfold readCalls callsCount in picked-length CALL-WIDTH (opensAt l) (λ k. callNumbers (callAt (rowAt l k))) (rowsIn l) (λ k h. refl) in
-      omega (
-        arith,
-        counted',
-        ap length read-calls,
-        flatMap-length CALL-WIDTH callNumbers (callsOf ks) (calls-wide (callsOf ks)),
-        length-map ks (λ (k : CutCall). k .call),
-      )
+  calls-length : length (readCalls l) ≡ CALL-WIDTH * callsCount l
+  unfolding readCalls callsCount
+  calls-length = picked-length CALL-WIDTH (opensAt l) (λ k. callNumbers (callAt (rowAt l k))) (rowsIn l) (λ k h. refl)
+
+  abbrev records : List ℕ
+  records = flatMap opRecord (opsOf ks)
+
+  abbrev handed : List ℕ
+  handed = flatMap callNumbers (callsOf ks)
 
   module _ (ops calls : List ℕ) where
     rooms : readBackAnswer gap l (length ops) (length calls)
         ≡ cond
-        (leb (OP-WIDTH * length (opsOf ks)) (length ops) && leb (CALL-WIDTH * length ks) (length calls))
-        (Read (length (opsOf ks)) (length ks))
+        (leb (length records) (length ops) && leb (length handed) (length calls))
+        (Read (length records / OP-WIDTH) (length handed / CALL-WIDTH))
         BufferShort
     unfolding readBackAnswer roomAnswer
-    rooms = rw (calls-pass row-iff gap g is l ks w, count-ops, count-calls)
+    rooms =
+        let n : OP-WIDTH * opsCount l ≡ length records = sym ops-length ∙ ap length read-ops in
+        let m : CALL-WIDTH * callsCount l ≡ length handed = sym calls-length ∙ ap length read-calls in
+        let n' : opsCount l ≡ length records / OP-WIDTH = omega arith in
+        let m' : callsCount l ≡ length handed / CALL-WIDTH = omega arith in
+        rw (calls-pass row-iff gap g is l ks w, n, m, n', m')
 
-    pub reads-back : ReadsBack gap l ops calls ks
+    pub reads-back : ReadsBack gap l records handed ops calls
     unfolding opsAfter callsAfter
     reads-back =
         record {
           reads = λ a b.
-              let answer : readBackAnswer gap l (length ops) (length calls) ≡ Read (length (opsOf ks)) (length ks) =
+              let answer : readBackAnswer gap l (length ops) (length calls) ≡ Read (length records / OP-WIDTH) (length handed / CALL-WIDTH) =
               rooms ∙ rw (le-leb _ _ a, le-leb _ _ b) refl in (
                 answer,
                 ap (λ r. opsAfter r l ops) answer ∙ ap (store ops 0) read-ops,
@@ -163,18 +151,14 @@ module _ (row-iff : RowIff) (is : CallRowIs) (gap : ℕ) (g : gap < 2 ^ 32) (l :
           short = λ h. rooms ∙ go h;
         }
       where
-        go : (length ops < OP-WIDTH * length (opsOf ks)) ⊎ (length calls < CALL-WIDTH * length ks)
+        go : (length ops < length records) ⊎ (length calls < length handed)
             → cond
-            (leb (OP-WIDTH * length (opsOf ks)) (length ops) && leb (CALL-WIDTH * length ks) (length calls))
-            (Read (length (opsOf ks)) (length ks))
+            (leb (length records) (length ops) && leb (length handed) (length calls))
+            (Read (length records / OP-WIDTH) (length handed / CALL-WIDTH))
             BufferShort
             ≡ BufferShort
         go (inl h) = rw (lt-leb _ _ h) refl
-        go (inr h) = rw (lt-leb _ _ h) (both (leb (OP-WIDTH * length (opsOf ks)) (length ops)))
-          where
-            both : (t : Bool) → cond (t && false) (Read (length (opsOf ks)) (length ks)) BufferShort ≡ BufferShort
-            both true = refl
-            both false = refl
+        go (inr h) = rw (lt-leb _ _ h, and-false) refl
 
 -- Refusals of a list that passes
 

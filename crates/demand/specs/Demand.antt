@@ -57,17 +57,16 @@ pub record WholeCalls (gap : ℕ) (l : List ℕ) (ks : List CutCall) : Type 0 wh
   pub last : rowsOf l ≡ liveRows (rowsOf l) ++ others
   pub dead : All (DeadRow gap) others
 
--- what read-back does with a list of these calls, lent two buffers
-pub record ReadsBack (gap : ℕ) (l ops calls : List ℕ) (ks : List CutCall) : Type 0 where
-  -- where both are long enough, it writes one operation record for each live row, with the call as it remains there, the row's width
-  -- and its value bytes; and five numbers for each call
-  pub reads : OP-WIDTH * length (opsOf ks) ≤ length ops → CALL-WIDTH * length ks ≤ length calls
+-- what read-back does with a list that holds these records and these calls, flat, when lent two buffers
+pub record ReadsBack (gap : ℕ) (l records handed ops calls : List ℕ) : Type 0 where
+  -- where both buffers are long enough, it writes the records and the calls, and counts them
+  pub reads : length records ≤ length ops → length handed ≤ length calls
       → let answer = readBackAnswer gap l (length ops) (length calls) in
-      (answer ≡ Read (length (opsOf ks)) (length ks))
-      × (opsAfter answer l ops ≡ store ops 0 (flatMap opRecord (opsOf ks)))
-      × (callsAfter answer l calls ≡ store calls 0 (flatMap callNumbers (callsOf ks)))
+      (answer ≡ Read (length records / OP-WIDTH) (length handed / CALL-WIDTH))
+      × (opsAfter answer l ops ≡ store ops 0 records)
+      × (callsAfter answer l calls ≡ store calls 0 handed)
   -- otherwise it refuses with 9
-  pub short : (length ops < OP-WIDTH * length (opsOf ks)) ⊎ (length calls < CALL-WIDTH * length ks)
+  pub short : (length ops < length records) ⊎ (length calls < length handed)
       → readBackAnswer gap l (length ops) (length calls) ≡ BufferShort
 
 -- any call, widths and value bytes: the call's numbers fit their types, there is a row, and each row has a width of 0 to 255 and eight
@@ -87,9 +86,10 @@ pub record Demand3 : Type 0 where
   pub exactly : (gap : ℕ) → gap < 2 ^ 32 → (l : List ℕ) → Passes gap l ↔ ((ks : List CutCall) × WholeCalls gap l ks)
   -- the check then answers how many rows it has seen: all
   pub counts : (gap : ℕ) (l : List ℕ) → Passes gap l → chainAnswer gap l ≡ Passed (length l / COLUMNS)
-  -- "Reading it back gives those calls, widths and value bytes"
+  -- "Reading it back gives those calls, widths and value bytes": a record of each row, with the call as it remains there, the row's
+  -- width and its value bytes, and each call as a whole
   pub reads : (gap : ℕ) → gap < 2 ^ 32 → (l : List ℕ) (ks : List CutCall) → WholeCalls gap l ks
-      → (ops calls : List ℕ) → ReadsBack gap l ops calls ks
+      → (ops calls : List ℕ) → ReadsBack gap l (flatMap opRecord (opsOf ks)) (flatMap callNumbers (callsOf ks)) ops calls
   -- "and no other list of calls, widths and value bytes has those live rows."
   pub alone : (gap : ℕ) (l : List ℕ) (ks : List CutCall) → WholeCalls gap l ks
       → (js : List CutCall) → All AnyCall js → Each (CallRow gap) (opsOf js) (liveRows (rowsOf l)) → js ≡ ks
