@@ -2,13 +2,12 @@
 -- Assumes nothing.
 use mathlib.Core.Path.{_≡_, refl}
 use mathlib.Core.List.{List, [], _∷_}
-use mathlib.Core.Logic.{_⊎_, inl, inr}
-use Prim.Native.Nat.{ℕ, zero, suc, _+_, _-_, _^_, _≤_, _<_}
+use mathlib.Core.Logic.{inl, inr}
+use Prim.Native.Nat.{ℕ, zero, suc, _+_, _^_, _≤_, _<_}
 use native.Mathlib.Omega.{arith}
 use lib.ListN.{length}
-use Rattle.words.specs.Words.{wrapAdd, wrapSub}
 use Rattle.words.proofs.Wrap.{add-plain, sub-plain}
-use Rattle.copy_row.specs.Calls.{Call, Piece, Op}
+use Rattle.copy_row.specs.Calls.{Piece, Op}
 use Rattle.copy_row.specs.Rows.{wrapped}
 use Rattle.copy_meaning.specs.Steps.{All, PieceOk}
 use Rattle.calls.specs.Cuts.{CutCall, rest, total, Cut, Fits}

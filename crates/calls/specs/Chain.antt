@@ -6,7 +6,7 @@ use mathlib.Core.Option.{Option, none, some}
 use mathlib.Core.List.{List, [], _∷_, map}
 use Prim.Native.Nat.{ℕ, zero, suc, _<_}
 use lib.ListN.{length}
-use Rattle.copy_row.specs.Calls.{Call, Piece, Op}
+use Rattle.copy_row.specs.Calls.{Call, Op}
 use Rattle.copy_row.specs.Rows.{wrapped}
 use Rattle.copy_meaning.specs.Steps.{All, LiveStep}
 use Rattle.calls.specs.Cuts.{CutCall, opsOf, Fits}

@@ -3,8 +3,8 @@
 -- calls with the same rows are one. Assumes nothing.
 use mathlib.Core.Path.{_≡_, refl, sym, ap, _∙_}
 use mathlib.Core.List.{List, [], _∷_, _++_, map}
-use mathlib.Core.Logic.{_⊎_, inl, inr}
-use Prim.Native.Nat.{ℕ, _+_, _-_, _*_, _%_, _^_, _≤_, _<_}
+use mathlib.Core.Logic.{inl, inr}
+use Prim.Native.Nat.{ℕ, _+_, _%_, _^_, _≤_, _<_}
 use native.Mathlib.Omega.{arith}
 use lib.ListN.{length}
 use Rattle.words.specs.Words.{wrapSub, words}
@@ -12,7 +12,7 @@ use Rattle.words.proofs.Wrap.{wrap-add-lt}
 use Rattle.copy_row.specs.Columns.{VALUE, SRC, SRC-INCR}
 use Rattle.copy_row.specs.Calls.{Call, Piece, Op, eightAt}
 use Rattle.copy_row.specs.Rows.{rowOf, tableRow, wrapped}
-use Rattle.copy_meaning.specs.Steps.{All, Words, PieceOk}
+use Rattle.copy_meaning.specs.Steps.{All, PieceOk}
 use Rattle.copy_meaning.specs.ReadRow.{wordsAt, halvesAt, callAt, opAt}
 use Rattle.copy_meaning.specs.RowIff.{CallRow, CallRowIs}
 use Rattle.chain.specs.Chain.{rowsOf}

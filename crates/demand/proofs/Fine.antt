@@ -1,8 +1,8 @@
 -- A row with nothing wrong is in range with 40 zero residues, and the other way round. Assumes nothing.
-use mathlib.Core.Path.{_≡_, refl, sym, ap, _∙_}
+use mathlib.Core.Path.{_≡_, refl, ap, _∙_}
 use mathlib.Core.Bool.{Bool, true, false, cond, not}
 use mathlib.Core.List.{List}
-use Prim.Native.Nat.{ℕ, zero, suc, _+_, _≤_, _<_}
+use Prim.Native.Nat.{ℕ, _+_, _≤_, _<_}
 use native.Mathlib.Omega.{arith}
 use native.Mathlib.Nat.{zero-add}
 use borrow.Author.Tests.{ltb-false, le-ltb, leb-false, lt-leb, eqb-true, eq-eqb, not-false}
@@ -15,7 +15,6 @@ use Rattle.copy_row.specs.Columns.{at, COLUMNS}
 use Rattle.copy_residues.specs.Range.{columnLimits, firstLarge, firstOut}
 use Rattle.copy_residues.specs.Residues.{residue, RESIDUES}
 use Rattle.copy_residues.specs.RowCheck.{firstResidue, rowFault}
-use Rattle.copy_residues.specs.declared.RowFault.{RowFault}
 use Rattle.copy_residues.specs.declared.RowFault.the-variants.{Fine, NotElement, OutOfRange, NotZero}
 use Rattle.copy_meaning.specs.RowIff.{InRange}
 

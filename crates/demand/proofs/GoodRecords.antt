@@ -1,17 +1,17 @@
 -- The copy table's maker finds nothing wrong in the operation records of live steps, so it refuses a list of them with nothing but the
 -- limit on records and 9. Assumes nothing.
-use mathlib.Core.Path.{_≡_, refl, sym, ap, ap₂, _∙_}
+use mathlib.Core.Path.{_≡_, sym, ap, _∙_}
 use mathlib.Core.Bool.{true, cond}
 use mathlib.Core.List.{List, [], _∷_, _++_, flatMap}
-use mathlib.Core.Logic.{_⊎_, inl, inr}
-use Prim.Native.Nat.{ℕ, zero, suc, _+_, _-_, _*_, _/_, _^_, _≤_, _<_}
+use mathlib.Core.Logic.{inl, inr}
+use Prim.Native.Nat.{ℕ, zero, suc, _+_, _*_, _≤_, _<_}
 use native.Mathlib.Nat.{mul-suc}
 use native.Mathlib.Omega.{arith}
 use borrow.Author.Tests.{le-ltb}
 use lib.Dec.{ltb, leb}
-use lib.ListN.{length, take, drop, getD, replicate, length-append}
+use lib.ListN.{length, take, drop, getD, replicate}
 use lib.Seq.{take-at, drop-at, drop-drop}
-use Rattle.records.specs.Records.{recordCount, recordAt, firstBad}
+use Rattle.records.specs.Records.{recordCount, recordAt}
 use Rattle.records.specs.RowCount.{rowCount}
 use Rattle.records.specs.Table.{tableAnswer}
 use Rattle.records.specs.declared.TableAnswer.the-variants.{Made, TooManyRecords, BufferShort}

@@ -1,17 +1,15 @@
 -- The instances hold, by computing. Assumes nothing.
-use mathlib.Core.Path.{_≡_, refl}
+use mathlib.Core.Path.{refl}
 use mathlib.Core.List.{flatMap}
-use mathlib.Core.Logic.{_⊎_, inl, inr}
+use mathlib.Core.Logic.{inl, inr}
 use Prim.Native.Nat.{ℕ, _<_}
 use native.Mathlib.Omega.{arith}
-use lib.ListN.{replicate}
 use Rattle.field.specs.Field.{addP, subP, mulP, bitP}
 use Rattle.field.specs.Carries.{carryP, carryLow, carryHigh}
 use Rattle.records.specs.Lists.{store, flat, picked, counted, first}
 use Rattle.records.specs.Records.{firstAbove, within, firstBad}
 use Rattle.records.specs.RowCount.{doubled, rowCount}
 use Rattle.records.specs.Table.{tableAnswer, rowAt, tableAfter}
-use Rattle.copy_row.specs.Calls.{Piece}
 use Rattle.copy_row.specs.Rows.{rowOf, paddingRow}
 use Rattle.copy_row.specs.Trace.{opLimits, copyAnswer, copyAfter}
 use Rattle.copy_residues.specs.Range.{columnLimits, firstLarge, firstOut}

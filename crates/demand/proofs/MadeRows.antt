@@ -10,9 +10,9 @@ use lib.ListN.{length}
 use Rattle.words.specs.Words.{number, words, halves}
 use Rattle.words.proofs.Digits.{number-digits, words-whole, halves-whole}
 use Rattle.words.proofs.Wrap.{wrap-add-lt, wrap-sub-lt}
-use Rattle.copy_row.specs.Columns.{at, SRC, SRC-INCR, MU, COLUMNS}
-use Rattle.copy_row.specs.Calls.{Call, Piece, Op, eightAt}
-use Rattle.copy_row.specs.Rows.{bit, wrapped, rowOf, tableRow}
+use Rattle.copy_row.specs.Columns.{at, MU, COLUMNS}
+use Rattle.copy_row.specs.Calls.{Op, eightAt}
+use Rattle.copy_row.specs.Rows.{bit, wrapped, rowOf}
 use Rattle.copy_meaning.specs.Steps.{Words, PieceOk}
 use Rattle.copy_meaning.specs.ReadRow.{wordsAt, halvesAt, callAt, opAt, nextAt}
 

@@ -1,39 +1,37 @@
 -- Read-back of a list of whole calls: each live row gives the record that it was made of, and each row with FIRST the call as it was
 -- handed in. Assumes nothing.
-use mathlib.Core.Path.{_≡_, refl, sym, ap, ap₂, _∙_, subst}
+use mathlib.Core.Path.{_≡_, refl, sym, ap, ap₂, _∙_}
 use mathlib.Core.Bool.{Bool, true, false, cond, _&&_, and-false}
 use mathlib.Core.List.{List, [], _∷_, _++_, map, append-nil, flatMap}
 use mathlib.Core.Logic.{_⊎_, inl, inr}
 use mathlib.Core.Option.{none}
-use Prim.Native.Nat.{ℕ, zero, suc, _+_, _*_, _/_, _^_, _≤_, _<_}
+use Prim.Native.Nat.{ℕ, zero, suc, _*_, _/_, _^_, _≤_, _<_}
 use native.Mathlib.Omega.{arith}
 use borrow.Author.Tests.{le-leb, lt-leb}
 use lib.Dec.{eqb, leb}
 use lib.ListN.{length}
-use Rattle.records.specs.Lists.{store, picked, counted}
-use Rattle.records.specs.Records.{recordAt}
+use Rattle.records.specs.Lists.{store}
 use Rattle.records.proofs.Flat.{picked-length}
-use Rattle.copy_row.specs.Columns.{at, FIRST, MU, COLUMNS}
+use Rattle.copy_row.specs.Columns.{at, FIRST, MU}
 use Rattle.copy_row.specs.Calls.{Call, Op, opRecord}
 use Rattle.copy_row.specs.Rows.{tableRow}
 use Rattle.copy_row.specs.Trace.{OP-WIDTH}
 use Rattle.copy_meaning.specs.Steps.{All, LiveStep}
 use Rattle.copy_meaning.specs.ReadRow.{callAt, opAt}
 use Rattle.copy_meaning.specs.RowIff.{RowIff, CallRowIs}
-use Rattle.chain.specs.Chain.{rowsOf, chainAnswer, chainNumbers}
+use Rattle.chain.specs.Chain.{chainAnswer, chainNumbers}
 use Rattle.chain.specs.declared.ChainAnswer.{ChainAnswer}
 use Rattle.chain.specs.declared.ChainAnswer.the-variants.{Passed, GapTooLarge, NotRows, BadElement, BadRange, BadResidue, LinkBroken, NotEnded}
-use Rattle.calls.specs.Cuts.{CutCall, opsOf, Fits}
+use Rattle.calls.specs.Cuts.{CutCall, opsOf}
 use Rattle.calls.specs.Chain.{ifFirst, firsts, callsOf}
 use Rattle.calls.proofs.Cuts.{all-have-rows}
 use Rattle.calls.proofs.Chained.{chain}
 use Rattle.calls.proofs.Group.{firsts-are}
 use Rattle.read_back.specs.ReadBack.{CALL-WIDTH, callNumbers, rowAt, rowsIn, liveAt, opensAt, opsCount, callsCount, readOps, readCalls, roomAnswer, onChain, readBackAnswer, opsAfter, callsAfter, readBackNumbers}
-use Rattle.read_back.specs.declared.ReadBackAnswer.{ReadBackAnswer}
 use Rattle.read_back.specs.declared.ReadBackAnswer.the-variants.{Read, BufferShort}
 use Rattle.demand.specs.Demand.{Passes, WholeCalls, ReadsBack}
 use Rattle.demand.proofs.MadeRows.{row-mu, row-marks, call-back, op-back}
-use Rattle.demand.proofs.RowLists.{picked-rows, flatMap-append, flatMap-length}
+use Rattle.demand.proofs.RowLists.{picked-rows, flatMap-append}
 use Rattle.demand.proofs.Whole.{steps, Still, all-still, calls-rows, calls-pass}
 
 -- what one row gives

@@ -11,22 +11,21 @@ use native.Mathlib.Omega.{arith}
 use borrow.Author.Tests.{eqb-true, eq-eqb}
 use lib.Dec.{eqb}
 use lib.ListN.{length, getD}
-use Rattle.answer.specs.declared.Answer.{Answer}
-use Rattle.copy_row.specs.Columns.{at, FIRST, END, IS-SET, IS-WRITE, MU, COLUMNS}
+use Rattle.copy_row.specs.Columns.{at, END, MU, COLUMNS}
 use Rattle.copy_row.specs.Calls.{Call, Op}
 use Rattle.copy_row.specs.Rows.{bit, wrapped, rowOf, tableRow}
 use Rattle.copy_residues.specs.RowCheck.{rowFault}
 use Rattle.copy_residues.specs.declared.RowFault.{RowFault}
 use Rattle.copy_residues.specs.declared.RowFault.the-variants.{Fine, NotElement, OutOfRange, NotZero}
-use Rattle.copy_meaning.specs.Steps.{All, Move, empty, ends, more, LiveStep, RowStep}
-use Rattle.copy_meaning.specs.ReadRow.{callAt, opAt, nextAt}
+use Rattle.copy_meaning.specs.Steps.{All, empty, ends, more, LiveStep, RowStep}
+use Rattle.copy_meaning.specs.ReadRow.{opAt, nextAt}
 use Rattle.copy_meaning.specs.RowIff.{RowIff}
 use Rattle.chain.specs.Link.{Before, closed, unended, dead, same, shown, handedOn, liveLinked, deadLinked, linked, before}
-use Rattle.chain.specs.Chain.{onFault, onEnd, chainFrom, chainNumbers}
+use Rattle.chain.specs.Chain.{onFault, chainFrom, chainNumbers}
 use Rattle.chain.specs.declared.ChainAnswer.{ChainAnswer}
 use Rattle.chain.specs.declared.ChainAnswer.the-variants.{Passed, LinkBroken}
 use Rattle.calls.specs.Chain.{unlessEnd, next, Opens, Chain}
-use Rattle.demand.proofs.MadeRows.{row-wide, row-mu, row-marks, call-back, op-back, next-back}
+use Rattle.demand.proofs.MadeRows.{row-wide, row-mu, call-back, op-back, next-back}
 
 -- Tests of lists
 

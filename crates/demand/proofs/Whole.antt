@@ -2,12 +2,12 @@
 use mathlib.Core.Path.{_≡_, refl, sym, ap, _∙_, subst}
 use mathlib.Core.Bool.{Bool, true, false, cond}
 use mathlib.Core.List.{List, [], _∷_, _++_, map}
-use mathlib.Core.Logic.{_⊎_, inl, inr, _↔_}
+use mathlib.Core.Logic.{inl}
 use mathlib.Core.Option.{Option, none, some}
-use Prim.Native.Nat.{ℕ, zero, suc, _+_, _*_, _/_, _%_, _^_, _≤_, _<_}
+use Prim.Native.Nat.{ℕ, _/_, _%_, _^_, _<_}
 use native.Mathlib.Omega.{arith}
 use borrow.Author.Tests.{eqb-true, eq-eqb, lt-leb}
-use lib.Dec.{eqb, leb}
+use lib.Dec.{eqb}
 use lib.ListN.{length}
 use Rattle.copy_row.specs.Columns.{at, MU, COLUMNS}
 use Rattle.copy_row.specs.Calls.{Call, Op}
@@ -17,7 +17,7 @@ use Rattle.copy_meaning.specs.RowIff.{RowIff, CallRow, CallRowIs}
 use Rattle.chain.specs.Link.{closed}
 use Rattle.chain.specs.Chain.{rowsOf, chainFrom, chainAnswer, chainNumbers}
 use Rattle.chain.specs.declared.ChainAnswer.{ChainAnswer}
-use Rattle.chain.specs.declared.ChainAnswer.the-variants.{Passed, GapTooLarge, NotRows}
+use Rattle.chain.specs.declared.ChainAnswer.the-variants.{Passed, NotRows}
 use Rattle.calls.specs.Cuts.{CutCall, opsOf, Fits}
 use Rattle.calls.specs.Chain.{next, Chain}
 use Rattle.calls.proofs.Parse.{parse}
@@ -25,7 +25,7 @@ use Rattle.calls.proofs.Chained.{chain}
 use Rattle.demand.specs.Demand.{Passes, liveRows, DeadRow, Each, WholeCalls}
 use Rattle.demand.proofs.MadeRows.{row-wide, row-mu}
 use Rattle.demand.proofs.Fine.{fine-passing, passing-fine}
-use Rattle.demand.proofs.Verdict.{Accepted, DeadFine, Good, live-fine, accepted-good, good-passes}
+use Rattle.demand.proofs.Verdict.{Accepted, DeadFine, live-fine, accepted-good, good-passes}
 use Rattle.demand.proofs.RowLists.{rows-length, rows-of-wide}
 
 -- every record of a chain is a live step

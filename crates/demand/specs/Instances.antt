@@ -6,7 +6,7 @@ use Prim.Native.Nat.{ℕ, _+_, _*_, _^_}
 use lib.ListN.{set, take, drop, replicate}
 use Rattle.field.specs.Field.{p}
 use Rattle.records.specs.declared.TableAnswer.the-variants.{Made}
-use Rattle.copy_row.specs.Columns.{SRC, SRC-INCR, DST-INCR, COUNT, COUNT-DECR, MU-COM-WIDE, COLUMNS}
+use Rattle.copy_row.specs.Columns.{SRC, SRC-INCR, DST-INCR, MU-COM-WIDE, COLUMNS}
 use Rattle.copy_row.specs.Calls.{Piece, opRecord}
 use Rattle.copy_row.specs.Rows.{tableRow, paddingRow}
 use Rattle.copy_row.specs.Trace.{copyAnswer, copyAfter}
