@@ -1,0 +1,17 @@
+pub mod Theorems
+pub mod RowIff
+pub mod ReadBack
+pub mod DstRes
+pub mod Instances
+pub mod Check
+pub mod Plain
+pub mod Equations
+pub mod Columns
+pub mod Sums
+pub mod Borrow
+pub mod Flags
+pub mod PlainOfZero
+pub mod ZeroOfPlain
+pub mod RowOfPlain
+pub mod PlainOfRow
+pub mod MadeRange
