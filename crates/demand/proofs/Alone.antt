@@ -8,19 +8,19 @@ use Prim.Native.Nat.{ℕ, _+_, _%_, _^_, _≤_, _<_}
 use native.Mathlib.Omega.{arith}
 use lib.ListN.{length}
 use Rattle.words.specs.Words.{wrapSub, words}
-use Rattle.words.proofs.Wrap.{wrap-add-lt}
 use Rattle.copy_row.specs.Columns.{VALUE, SRC, SRC-INCR}
 use Rattle.copy_row.specs.Calls.{Call, Piece, Op, eightAt}
-use Rattle.copy_row.specs.Rows.{rowOf, tableRow, wrapped}
+use Rattle.copy_row.specs.Rows.{rowOf, tableRow}
 use Rattle.copy_meaning.specs.Steps.{All, PieceOk}
 use Rattle.copy_meaning.specs.ReadRow.{wordsAt, halvesAt, callAt, opAt}
-use Rattle.copy_meaning.specs.RowIff.{CallRow, CallRowIs}
+use Rattle.copy_meaning.specs.RowIff.{CallRow}
+use Rattle.copy_meaning.proofs.ReadBack.{eight-back, call-back, src-incr-back}
 use Rattle.chain.specs.Chain.{rowsOf}
 use Rattle.calls.specs.Cuts.{CutCall, rest, isLast, cutFrom, opsOf, Fits}
 use Rattle.calls.specs.Chain.{group}
 use Rattle.calls.proofs.Cuts.{fits-has-row}
 use Rattle.demand.specs.Demand.{liveRows, Each, WholeCalls, AnyPiece, AnyCall}
-use Rattle.demand.proofs.MadeRows.{words-modulo, halves-back, eight-back, row-marks, call-back}
+use Rattle.demand.proofs.MadeRows.{src-modulo, row-marks}
 use Rattle.demand.proofs.Whole.{rows-are}
 
 -- the piece of a row, its width from SRC and SRC_INCR
@@ -36,8 +36,8 @@ width-back src w h = omega arith
 piece-back : (o : Op) → AnyPiece (o .piece) → pieceAt (tableRow o) ≡ o .piece
 unfolding pieceAt rowOf
 piece-back o any =
-    let src = words-modulo (o .call .src) in
-    let incr = halves-back (wrapped o .src) (wrap-add-lt (o .call .src) (o .piece .width)) in
+    let src = src-modulo 1 o in
+    let incr = src-incr-back 1 o in
     let value = eight-back (o .piece .value) (any .eight) in
     let width : wrapSub (halvesAt (tableRow o) SRC-INCR) (wordsAt (tableRow o) SRC) ≡ o .piece .width =
     (λ i. wrapSub (incr i) (src i)) ∙ width-back (o .call .src) (o .piece .width) (any .width) in
@@ -92,11 +92,11 @@ map-read : (os : List Op) → map anyAt (map tableRow os) ≡ map readRow os
 map-read [] = refl
 map-read (o ∷ os) = ap (λ t. readRow o ∷ t) (map-read os)
 
-pub alone : CallRowIs → (gap : ℕ) (l : List ℕ) (ks : List CutCall) → WholeCalls gap l ks → (js : List CutCall) → All AnyCall js
+pub alone : (gap : ℕ) (l : List ℕ) (ks : List CutCall) → WholeCalls gap l ks → (js : List CutCall) → All AnyCall js
     → Each (CallRow gap) (opsOf js) (liveRows (rowsOf l)) → js ≡ ks
-alone is gap l ks w js any each =
+alone gap l ks w js any each =
     let same : map tableRow (opsOf js) ≡ map tableRow (opsOf ks) =
-    sym (rows-are is gap (opsOf js) (liveRows (rowsOf l)) each) ∙ rows-are is gap (opsOf ks) (liveRows (rowsOf l)) (w .live) in
+    sym (rows-are gap (opsOf js) (liveRows (rowsOf l)) each) ∙ rows-are gap (opsOf ks) (liveRows (rowsOf l)) (w .live) in
     sym (group-rows js any)
     ∙ ap group (sym (map-read (opsOf js)) ∙ ap (map anyAt) same ∙ map-read (opsOf ks))
     ∙ group-rows ks (any-calls gap ks (w .sound))

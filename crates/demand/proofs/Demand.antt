@@ -1,4 +1,4 @@
--- Demand 3 holds, given what one row that passes says. Assumes nothing.
+-- Demand 3 holds. Assumes nothing.
 use mathlib.Core.Path.{_≡_, refl}
 use mathlib.Core.Bool.{Bool, true, false, cond}
 use mathlib.Core.List.{List, flatMap}
@@ -12,7 +12,6 @@ use Rattle.records.specs.declared.TableAnswer.the-variants.{Made}
 use Rattle.copy_row.specs.Calls.{opRecord}
 use Rattle.copy_row.specs.Trace.{copyAnswer, copyAfter}
 use Rattle.copy_meaning.specs.Steps.{All}
-use Rattle.copy_meaning.specs.RowIff.{RowIff, CallRowIs}
 use Rattle.chain.specs.Chain.{chainAnswer}
 use Rattle.chain.specs.declared.ChainAnswer.{ChainAnswer}
 use Rattle.chain.specs.declared.ChainAnswer.the-variants.{Passed, GapTooLarge}
@@ -35,30 +34,29 @@ gap-below gap l e = go (leb (2 ^ 32) gap) _ refl e
     go true v h e = absurd (omega arith)
     go false v h e = leb-false (2 ^ 32) gap h
 
-module _ (row-iff : RowIff) (is : CallRowIs) where
-  counts : (gap : ℕ) (l : List ℕ) → Passes gap l → chainAnswer gap l ≡ Passed (length l / COLUMNS)
-  counts gap l e =
-      let g = gap-below gap l e in
-      let w = passes-calls row-iff gap g l e in
-      calls-pass row-iff gap g is l (w .0) (w .1)
+counts : (gap : ℕ) (l : List ℕ) → Passes gap l → chainAnswer gap l ≡ Passed (length l / COLUMNS)
+counts gap l e =
+    let g = gap-below gap l e in
+    let w = passes-calls gap g l e in
+    calls-pass gap g l (w .0) (w .1)
 
-  -- the rows that the maker writes of the records of calls that fit pass, and are read back as these records and calls
-  pub made-passes : (gap : ℕ) → gap < 2 ^ 32 → (limit : ℕ) → limit ≤ 2 ^ 63 → (ks : List CutCall) → All (Fits gap) ks
-      → (table : List ℕ) (rows : ℕ) → let records = flatMap opRecord (opsOf ks) in
-      copyAnswer limit records (length table) ≡ Made rows
-      → let l = take (COLUMNS * rows) (copyAfter records (Made rows) table) in
-      Passes gap l × ((ops calls : List ℕ) → ReadsBack gap l records (flatMap callNumbers (callsOf ks)) ops calls)
-  made-passes gap g limit small ks fits table rows made =
-      let l = take (COLUMNS * rows) (copyAfter (flatMap opRecord (opsOf ks)) (Made rows) table) in
-      let w = written-calls gap limit small ks fits table rows made row-iff g in
-      (calls-passes row-iff gap g is l ks w, reads-back row-iff is gap g l ks w)
+-- the rows that the maker writes of the records of calls that fit pass, and are read back as these records and calls
+pub made-passes : (gap : ℕ) → gap < 2 ^ 32 → (limit : ℕ) → limit ≤ 2 ^ 63 → (ks : List CutCall) → All (Fits gap) ks
+    → (table : List ℕ) (rows : ℕ) → let records = flatMap opRecord (opsOf ks) in
+    copyAnswer limit records (length table) ≡ Made rows
+    → let l = take (COLUMNS * rows) (copyAfter records (Made rows) table) in
+    Passes gap l × ((ops calls : List ℕ) → ReadsBack gap l records (flatMap callNumbers (callsOf ks)) ops calls)
+made-passes gap g limit small ks fits table rows made =
+    let l = take (COLUMNS * rows) (copyAfter (flatMap opRecord (opsOf ks)) (Made rows) table) in
+    let w = written-calls gap limit small ks fits table rows made g in
+    (calls-passes gap g l ks w, reads-back gap g l ks w)
 
-  pub demand3 : Demand3
-  demand3 =
-      record {
-        exactly = λ gap g l. (passes-calls row-iff gap g l, λ w. calls-passes row-iff gap g is l (w .0) (w .1));
-        counts = counts;
-        reads = λ gap g l ks w ops calls. reads-back row-iff is gap g l ks w ops calls;
-        alone = alone is;
-        only-nine = only-nine;
-      }
+pub demand3 : Demand3
+demand3 =
+    record {
+      exactly = λ gap g l. (passes-calls gap g l, λ w. calls-passes gap g l (w .0) (w .1));
+      counts = counts;
+      reads = λ gap g l ks w ops calls. reads-back gap g l ks w ops calls;
+      alone = alone;
+      only-nine = only-nine;
+    }

@@ -1,5 +1,4 @@
 pub mod MadeRows
-pub mod Fine
 pub mod Verdict
 pub mod RowLists
 pub mod Whole

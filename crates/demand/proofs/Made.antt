@@ -3,7 +3,6 @@
 use mathlib.Core.Path.{_≡_, refl, ap, ap₂, _∙_}
 use mathlib.Core.Bool.{Bool, cond}
 use mathlib.Core.List.{List, [], _∷_, _++_, map, flatMap}
-use mathlib.Core.Logic.{inr}
 use mathlib.Core.Option.{none}
 use Prim.Native.Nat.{ℕ, zero, suc, _-_, _*_, _/_, _^_, _≤_, _<_}
 use native.Mathlib.Omega.{arith}
@@ -18,18 +17,17 @@ use Rattle.records.proofs.RowCount.{row-count-covers}
 use Rattle.records.proofs.Table.{MadeFacts, made-facts, row-record, row-padding, made-row, after-length}
 use Rattle.copy_row.specs.Columns.{COLUMNS}
 use Rattle.copy_row.specs.Calls.{Op, opRecord, opOf}
-use Rattle.copy_row.specs.Rows.{rowOf, tableRow, paddingRow}
+use Rattle.copy_row.specs.Rows.{tableRow, paddingRow}
 use Rattle.copy_row.specs.Trace.{OP-WIDTH, goodOp, copyRow, copyAnswer, copyAfter}
-use Rattle.copy_residues.specs.RowCheck.{rowFault}
-use Rattle.copy_residues.specs.declared.RowFault.the-variants.{Fine}
-use Rattle.copy_meaning.specs.Steps.{All, Words, PieceOk, LiveStep}
-use Rattle.copy_meaning.specs.RowIff.{RowIff}
+use Rattle.copy_meaning.specs.Steps.{All, LiveStep}
+use Rattle.copy_meaning.proofs.Check.{fine-passing}
+use Rattle.copy_meaning.proofs.RowIff.{padding-passes}
+use Rattle.copy_meaning.proofs.ReadBack.{eight-back}
 use Rattle.chain.specs.Chain.{rowsFrom, rowsOf}
 use Rattle.calls.specs.Cuts.{CutCall, opsOf, Fits}
 use Rattle.calls.proofs.Chained.{chain}
 use Rattle.demand.specs.Demand.{DeadRow, WholeCalls}
-use Rattle.demand.proofs.MadeRows.{row-wide, eight-back}
-use Rattle.demand.proofs.Fine.{fine-passing}
+use Rattle.demand.proofs.MadeRows.{row-wide}
 use Rattle.demand.proofs.RowLists.{listed, listed-same, run-taken, rows-listed}
 use Rattle.demand.proofs.Whole.{steps, whole-calls}
 use Rattle.demand.proofs.GoodRecords.{record-shift, records-wide, records-count}
@@ -96,21 +94,12 @@ module _ (gap : ℕ) where
 
 -- Padding
 
-module _ (row-iff : RowIff) (gap : ℕ) (g : gap < 2 ^ 32) where
-  padding-fine : rowFault gap paddingRow ≡ Fine
-  unfolding rowOf paddingRow
-  padding-fine =
-      let piece : PieceOk (record { width = 8; value = replicate 8 0 }) = record { wide = inr refl; eight = refl; bytes = omega arith; tail = λ e. refl } in
-      let words : Words (record { kind = 0; stamp = 0; src = 0; dst = 0; count = 8 }) = omega arith in
-      row-iff gap g paddingRow refl .1
-      (refl, record { words = words; piece = piece; kind = refl; first = refl; end = refl; enough = omega arith })
-
-  padding-dead : (n : ℕ) → All (DeadRow gap) (replicate n paddingRow)
-  unfolding paddingRow
-  padding-dead zero = tt
-  padding-dead (suc n) =
-      let q = fine-passing gap paddingRow padding-fine in
-      (record { dead = refl; range = q .range; zeroes = q .zeroes }, padding-dead n)
+padding-dead : (gap : ℕ) → gap < 2 ^ 32 → (n : ℕ) → All (DeadRow gap) (replicate n paddingRow)
+unfolding paddingRow
+padding-dead gap g zero = tt
+padding-dead gap g (suc n) =
+    let q = fine-passing gap paddingRow (padding-passes gap g) in
+    (record { dead = refl; range = q .range; zeroes = q .zeroes }, padding-dead gap g n)
 
 -- The rows written: the maker takes `limit` records, and answers `Made rows`
 
@@ -154,8 +143,8 @@ module _ (gap limit : ℕ) (small : limit ≤ 2 ^ 63) (ks : List CutCall) (fits 
       ∙ listed-rows gap (opsOf ks) rows live covers
 
   -- the rows written are those of these calls, then padding
-  pub written-calls : RowIff → gap < 2 ^ 32 → WholeCalls gap written ks
-  written-calls row-iff g =
-      whole-calls row-iff gap g written (omega (arith, written-length)) ks fits (replicate (rows - length (opsOf ks)) paddingRow)
-      (padding-dead row-iff gap g (rows - length (opsOf ks)))
+  pub written-calls : gap < 2 ^ 32 → WholeCalls gap written ks
+  written-calls g =
+      whole-calls gap g written (omega (arith, written-length)) ks fits (replicate (rows - length (opsOf ks)) paddingRow)
+      (padding-dead gap g (rows - length (opsOf ks)))
       written-rows

@@ -18,7 +18,7 @@ use Rattle.copy_row.specs.Rows.{tableRow}
 use Rattle.copy_row.specs.Trace.{OP-WIDTH}
 use Rattle.copy_meaning.specs.Steps.{All, LiveStep}
 use Rattle.copy_meaning.specs.ReadRow.{callAt, opAt}
-use Rattle.copy_meaning.specs.RowIff.{RowIff, CallRowIs}
+use Rattle.copy_meaning.proofs.ReadBack.{call-back, op-back}
 use Rattle.chain.specs.Chain.{chainAnswer, chainNumbers}
 use Rattle.chain.specs.declared.ChainAnswer.{ChainAnswer}
 use Rattle.chain.specs.declared.ChainAnswer.the-variants.{Passed, GapTooLarge, NotRows, BadElement, BadRange, BadResidue, LinkBroken, NotEnded}
@@ -30,7 +30,7 @@ use Rattle.calls.proofs.Group.{firsts-are}
 use Rattle.read_back.specs.ReadBack.{CALL-WIDTH, callNumbers, rowAt, rowsIn, liveAt, opensAt, opsCount, callsCount, readOps, readCalls, roomAnswer, onChain, readBackAnswer, opsAfter, callsAfter, readBackNumbers}
 use Rattle.read_back.specs.declared.ReadBackAnswer.the-variants.{Read, BufferShort}
 use Rattle.demand.specs.Demand.{Passes, WholeCalls, ReadsBack}
-use Rattle.demand.proofs.MadeRows.{row-mu, row-marks, call-back, op-back}
+use Rattle.demand.proofs.MadeRows.{row-mu, row-marks}
 use Rattle.demand.proofs.RowLists.{picked-rows, flatMap-append}
 use Rattle.demand.proofs.Whole.{steps, Still, all-still, calls-rows, calls-pass}
 
@@ -80,7 +80,7 @@ module _ (gap : ℕ) where
 
 -- What is read of a list of whole calls
 
-module _ (row-iff : RowIff) (is : CallRowIs) (gap : ℕ) (g : gap < 2 ^ 32) (l : List ℕ) (ks : List CutCall) (w : WholeCalls gap l ks) where
+module _ (gap : ℕ) (g : gap < 2 ^ 32) (l : List ℕ) (ks : List CutCall) (w : WholeCalls gap l ks) where
   live : All (LiveStep gap) (opsOf ks)
   live = steps gap none (opsOf ks) (chain gap ks (w .sound))
 
@@ -91,7 +91,7 @@ module _ (row-iff : RowIff) (is : CallRowIs) (gap : ℕ) (g : gap < 2 ^ 32) (l :
   unfolding readOps
   read-ops =
       picked-rows (λ row. eqb (at row MU) 1) (λ row. opRecord (opAt row)) l
-      ∙ ap (flatMap opPart) (calls-rows row-iff gap g is l ks w)
+      ∙ ap (flatMap opPart) (calls-rows gap g l ks w)
       ∙ flatMap-append opPart (map tableRow (opsOf ks)) (w .others)
       ∙ ap₂ (λ (a b : List ℕ). a ++ b) (ops-read gap (opsOf ks) live) (no-ops (w .others) still)
       ∙ append-nil (flatMap opRecord (opsOf ks))
@@ -100,7 +100,7 @@ module _ (row-iff : RowIff) (is : CallRowIs) (gap : ℕ) (g : gap < 2 ^ 32) (l :
   unfolding readCalls
   read-calls =
       picked-rows (λ row. eqb (at row MU) 1 && eqb (at row FIRST) 1) (λ row. callNumbers (callAt row)) l
-      ∙ ap (flatMap callPart) (calls-rows row-iff gap g is l ks w)
+      ∙ ap (flatMap callPart) (calls-rows gap g l ks w)
       ∙ flatMap-append callPart (map tableRow (opsOf ks)) (w .others)
       ∙ ap₂ (λ (a b : List ℕ). a ++ b) (calls-read gap (opsOf ks) live) (no-calls (w .others) still)
       ∙ append-nil (flatMap callNumbers (firsts (opsOf ks)))
@@ -133,7 +133,7 @@ module _ (row-iff : RowIff) (is : CallRowIs) (gap : ℕ) (g : gap < 2 ^ 32) (l :
         let m : CALL-WIDTH * callsCount l ≡ length handed = sym calls-length ∙ ap length read-calls in
         let n' : opsCount l ≡ length records / OP-WIDTH = omega arith in
         let m' : callsCount l ≡ length handed / CALL-WIDTH = omega arith in
-        rw (calls-pass row-iff gap g is l ks w, n, m, n', m')
+        rw (calls-pass gap g l ks w, n, m, n', m')
 
     pub reads-back : ReadsBack gap l records handed ops calls
     unfolding opsAfter callsAfter

@@ -1,7 +1,7 @@
 -- The chain check refuses nothing exactly where the rows are those of a chain of operation records, then dead ones. The check goes on
 -- with a row only after it found nothing wrong in it, so each row is the row of the record read off it; the link test is then an equation
 -- of calls. Assumes nothing.
-use mathlib.Core.Path.{_≡_, refl, sym, ap, ap₂, _∙_, subst, subst₂}
+use mathlib.Core.Path.{_≡_, refl, sym, ap, ap₂, _∙_, subst}
 use mathlib.Core.Bool.{Bool, true, false, cond, _&&_, false≢true}
 use mathlib.Core.List.{List, [], _∷_, _++_, map}
 use mathlib.Core.Option.{Option, none, some}
@@ -19,13 +19,14 @@ use Rattle.copy_residues.specs.declared.RowFault.{RowFault}
 use Rattle.copy_residues.specs.declared.RowFault.the-variants.{Fine, NotElement, OutOfRange, NotZero}
 use Rattle.copy_meaning.specs.Steps.{All, empty, ends, more, LiveStep, RowStep}
 use Rattle.copy_meaning.specs.ReadRow.{opAt, nextAt}
-use Rattle.copy_meaning.specs.RowIff.{RowIff}
+use Rattle.copy_meaning.proofs.RowIff.{row-iff, live-passes}
+use Rattle.copy_meaning.proofs.ReadBack.{call-back, next-back}
 use Rattle.chain.specs.Link.{Before, closed, unended, dead, same, shown, handedOn, liveLinked, deadLinked, linked, before}
 use Rattle.chain.specs.Chain.{onFault, chainFrom, chainNumbers}
 use Rattle.chain.specs.declared.ChainAnswer.{ChainAnswer}
 use Rattle.chain.specs.declared.ChainAnswer.the-variants.{Passed, LinkBroken}
 use Rattle.calls.specs.Chain.{unlessEnd, next, Opens, Chain}
-use Rattle.demand.proofs.MadeRows.{row-wide, row-mu, call-back, op-back, next-back}
+use Rattle.demand.proofs.MadeRows.{row-mu}
 
 -- Tests of lists
 
@@ -99,7 +100,7 @@ linked-opens previous row t =
     let e = same-eq (shown row) (handedOn previous) t in
     (ap (λ l. getD l 0 0) e, ap callIn e)
 
-module _ (row-iff : RowIff) (gap : ℕ) (g : gap < 2 ^ 32) where
+module _ (gap : ℕ) (g : gap < 2 ^ 32) where
   module _ (row : List ℕ) (wide : length row ≡ COLUMNS) (fine : rowFault gap row ≡ Fine) where
     means : (row ≡ rowOf (at row MU) (opAt row)) × RowStep gap (at row MU) (opAt row)
     means = row-iff gap g row wide .0 fine
@@ -114,15 +115,6 @@ module _ (row-iff : RowIff) (gap : ℕ) (g : gap < 2 ^ 32) where
 
     live-means : at row MU ≡ 1 → (row ≡ tableRow (opAt row)) × LiveStep gap (opAt row)
     live-means live = subst (λ (mu : ℕ). (row ≡ rowOf mu (opAt row)) × RowStep gap mu (opAt row)) live means
-
-  pub live-fine : (o : Op) → LiveStep gap o → rowFault gap (tableRow o) ≡ Fine
-  live-fine o s =
-      row-iff gap g (tableRow o) (row-wide 1 o) .1
-      (subst₂
-      (λ (mu : ℕ) (x : Op). (tableRow o ≡ rowOf mu x) × RowStep gap mu x)
-      (sym (row-mu 1 o))
-      (sym (op-back 1 o (s .words) (s .piece)))
-      (refl, s))
 
   -- From the check to the chain
 
@@ -246,7 +238,7 @@ module _ (row-iff : RowIff) (gap : ℕ) (g : gap < 2 ^ 32) where
   chain-passes dead e k [] others a c d = absurd a
   chain-passes b e k (o ∷ os) others a c d =
       let after = chain-passes (before (tableRow o)) (next o) (k + 1) os others (agrees o (c .1)) (c .2) d in
-      rw (live-fine o (c .1), row-mu 1 o, opens-linked b e o a (c .0) (c .1)) ((rw (row-mu 1 o) at after) ∙ ap Passed (omega arith))
+      rw (live-passes gap o g (c .1), row-mu 1 o, opens-linked b e o a (c .0) (c .1)) ((rw (row-mu 1 o) at after) ∙ ap Passed (omega arith))
 
   -- the rows of a chain and then dead ones: nothing is refused, and all rows are counted
   pub good-passes : (os : List Op) (others : List (List ℕ)) → Chain gap none os → All (DeadFine gap) others

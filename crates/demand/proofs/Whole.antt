@@ -13,7 +13,10 @@ use Rattle.copy_row.specs.Columns.{at, MU, COLUMNS}
 use Rattle.copy_row.specs.Calls.{Call, Op}
 use Rattle.copy_row.specs.Rows.{tableRow}
 use Rattle.copy_meaning.specs.Steps.{All, LiveStep}
-use Rattle.copy_meaning.specs.RowIff.{RowIff, CallRow, CallRowIs}
+use Rattle.copy_meaning.specs.RowIff.{CallRow}
+use Rattle.copy_meaning.proofs.Check.{fine-passing, passing-fine}
+use Rattle.copy_meaning.proofs.RowIff.{live-passes}
+use Rattle.copy_meaning.proofs.DstRes.{call-row}
 use Rattle.chain.specs.Link.{closed}
 use Rattle.chain.specs.Chain.{rowsOf, chainFrom, chainAnswer, chainNumbers}
 use Rattle.chain.specs.declared.ChainAnswer.{ChainAnswer}
@@ -24,8 +27,7 @@ use Rattle.calls.proofs.Parse.{parse}
 use Rattle.calls.proofs.Chained.{chain}
 use Rattle.demand.specs.Demand.{Passes, liveRows, DeadRow, Each, WholeCalls}
 use Rattle.demand.proofs.MadeRows.{row-wide, row-mu}
-use Rattle.demand.proofs.Fine.{fine-passing, passing-fine}
-use Rattle.demand.proofs.Verdict.{Accepted, DeadFine, live-fine, accepted-good, good-passes}
+use Rattle.demand.proofs.Verdict.{Accepted, DeadFine, accepted-good, good-passes}
 use Rattle.demand.proofs.RowLists.{rows-length, rows-of-wide}
 
 -- every record of a chain is a live step
@@ -48,11 +50,11 @@ live-rows [] others still = live-none others still
 live-rows (o ∷ os) others still = rw (row-mu 1 o) (ap (λ t. tableRow o ∷ t) (live-rows os others still))
 
 -- the rows of calls are their table rows
-pub rows-are : CallRowIs → (gap : ℕ) (os : List Op) (rows : List (List ℕ)) → Each (CallRow gap) os rows → rows ≡ map tableRow os
-rows-are is gap [] [] each = refl
-rows-are is gap [] (row ∷ rows) each = absurd each
-rows-are is gap (o ∷ os) [] each = absurd each
-rows-are is gap (o ∷ os) (row ∷ rows) each = λ i. is gap o row (each .0) i ∷ rows-are is gap os rows (each .1) i
+pub rows-are : (gap : ℕ) (os : List Op) (rows : List (List ℕ)) → Each (CallRow gap) os rows → rows ≡ map tableRow os
+rows-are gap [] [] each = refl
+rows-are gap [] (row ∷ rows) each = absurd each
+rows-are gap (o ∷ os) [] each = absurd each
+rows-are gap (o ∷ os) (row ∷ rows) each = λ i. call-row gap o row (each .0) i ∷ rows-are gap os rows (each .1) i
 
 -- Dead rows
 
@@ -95,11 +97,11 @@ module _ (gap : ℕ) (g : gap < 2 ^ 32) (l : List ℕ) where
       go true e = refl
       go false e = absurd (omega arith)
 
-module _ (row-iff : RowIff) (gap : ℕ) (g : gap < 2 ^ 32) where
+module _ (gap : ℕ) (g : gap < 2 ^ 32) where
   made-call-rows : (os : List Op) → All (LiveStep gap) os → Each (CallRow gap) os (map tableRow os)
   made-call-rows [] s = tt
   made-call-rows (o ∷ os) s = (
-    record { wide = row-wide 1 o; range = fine-passing gap (tableRow o) (live-fine row-iff gap g o (s .0)) .range; same = inl refl },
+    record { wide = row-wide 1 o; range = fine-passing gap (tableRow o) (live-passes gap o g (s .0)) .range; same = inl refl },
     made-call-rows os (s .1),
   )
 
@@ -122,17 +124,17 @@ module _ (row-iff : RowIff) (gap : ℕ) (g : gap < 2 ^ 32) where
   pub passes-calls : (l : List ℕ) → Passes gap l → (ks : List CutCall) × WholeCalls gap l ks
   passes-calls l e =
       let whole = passes-whole gap g l e in
-      let good = accepted-good row-iff gap g closed 0 (rowsOf l) (rows-of-wide l whole) (subst (λ (v : ChainAnswer). Accepted v) (check-rows gap g l whole) e) in
+      let good = accepted-good gap g closed 0 (rowsOf l) (rows-of-wide l whole) (subst (λ (v : ChainAnswer). Accepted v) (check-rows gap g l whole) e) in
       let parsed = parse gap none (good .ops) (good .chain) in (
         parsed .0,
         whole-calls l whole (parsed .0) (parsed .1) (good .others) (dead-rows gap (good .others) (good .dead))
             (good .same ∙ ap (λ os. map tableRow os ++ good .others) (parsed .2)),
       )
 
-  module _ (is : CallRowIs) (l : List ℕ) (ks : List CutCall) (w : WholeCalls gap l ks) where
+  module _ (l : List ℕ) (ks : List CutCall) (w : WholeCalls gap l ks) where
     -- the list's rows are the table rows of the calls, then the others
     pub calls-rows : rowsOf l ≡ map tableRow (opsOf ks) ++ w .others
-    calls-rows = w .last ∙ ap (λ rows. rows ++ w .others) (rows-are is gap (opsOf ks) (liveRows (rowsOf l)) (w .live))
+    calls-rows = w .last ∙ ap (λ rows. rows ++ w .others) (rows-are gap (opsOf ks) (liveRows (rowsOf l)) (w .live))
 
     pub calls-pass : chainAnswer gap l ≡ Passed (length l / COLUMNS)
     calls-pass =
@@ -140,7 +142,7 @@ module _ (row-iff : RowIff) (gap : ℕ) (g : gap < 2 ^ 32) where
         let fine = dead-fine gap (w .others) (behind (map tableRow (opsOf ks)) (w .others) wide) (w .dead) in
         check-rows gap g l (w .rows)
         ∙ ap (chainFrom gap closed 0) calls-rows
-        ∙ good-passes row-iff gap g (opsOf ks) (w .others) (chain gap ks (w .sound)) fine
+        ∙ good-passes gap g (opsOf ks) (w .others) (chain gap ks (w .sound)) fine
         ∙ ap (λ rows. Passed (length rows)) (sym calls-rows)
         ∙ ap Passed (rows-length (length l / COLUMNS) l)
 
