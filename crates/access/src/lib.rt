@@ -3,7 +3,8 @@ ghost use mathlib.Core.Path.{_≡_};
 ghost use Prim.Native.Nat.{_-_, _^_};
 ghost use lib.ListN.{length, replicate};
 ghost use Rattle.records.specs.Records.{within};
-ghost use Rattle.access.specs.Access.{isWidth, goodAccess};
+ghost use Rattle.access.specs.Access.{accessRecord, isWidth, goodAccess};
+ghost use Rattle.access.specs.RegisterAccess.{registerAccess};
 
 // Where the numbers stand in a record, by the names of `MemwOperation`; VALUE, OLD and OLD_TIMESTAMP are the first of eight.
 pub const IS_REGISTER: usize = 0;
@@ -45,6 +46,50 @@ pub fn good_access(op: &[u64]) -> bool
         return false;
     }
     are_words(&op[OLD..OLD + 8])
+}
+
+// The record of an access of a register: `address` is twice its number, and `value` and `old` are its words.
+pub fn register_access(
+    address: u64,
+    value: [u64; 2],
+    old: [u64; 2],
+    timestamp: u64,
+    old_timestamp: u64,
+    is_read: u64,
+) -> [u64; 29]
+    ensures { λ r. ⌜ r ≡ accessRecord (registerAccess address value old timestamp «old_timestamp» «is_read») ⌝ }
+{
+    [
+        1,
+        address,
+        value[0],
+        value[1],
+        0,
+        0,
+        0,
+        0,
+        0,
+        0,
+        timestamp,
+        2,
+        is_read,
+        old[0],
+        old[1],
+        0,
+        0,
+        0,
+        0,
+        0,
+        0,
+        old_timestamp,
+        old_timestamp,
+        0,
+        0,
+        0,
+        0,
+        0,
+        0,
+    ]
 }
 
 // Whether an access has this width.
