@@ -13,7 +13,7 @@ pub record CutCall : Type 0 where
   pub call : Call
   pub pieces : List Piece
 
--- what is left of a call after a row of width w, in plain sums
+-- what is left of a call after a row of width w, in plain sums; a count below w leaves 0
 abbrev pub rest : Call → ℕ → Call
 rest c w = record { kind = c .kind; stamp = c .stamp; src = c .src + w; dst = c .dst + w; count = c .count - w }
 

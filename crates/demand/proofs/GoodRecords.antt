@@ -4,72 +4,47 @@ use mathlib.Core.Path.{_≡_, sym, ap, _∙_}
 use mathlib.Core.Bool.{true, cond}
 use mathlib.Core.List.{List, [], _∷_, _++_, flatMap}
 use mathlib.Core.Logic.{inl, inr}
-use Prim.Native.Nat.{ℕ, zero, suc, _+_, _*_, _≤_, _<_}
+use Prim.Native.Nat.{ℕ, zero, suc, _+_, _*_, _<_}
 use native.Mathlib.Nat.{mul-suc}
 use native.Mathlib.Omega.{arith}
 use borrow.Author.Tests.{le-ltb}
 use lib.Dec.{ltb, leb}
-use lib.ListN.{length, take, drop, getD, replicate}
+use lib.ListN.{length, take, drop}
 use lib.Seq.{take-at, drop-at, drop-drop}
 use Rattle.records.specs.Records.{recordCount, recordAt}
 use Rattle.records.specs.RowCount.{rowCount}
 use Rattle.records.specs.Table.{tableAnswer}
 use Rattle.records.specs.declared.TableAnswer.the-variants.{Made, TooManyRecords, BufferShort}
-use Rattle.records.proofs.Records.{record-count, within-all, none-bad}
+use Rattle.words.proofs.Digits.{Below}
+use Rattle.records.proofs.Records.{record-count, none-bad}
 use Rattle.copy_row.specs.Columns.{COLUMNS}
 use Rattle.copy_row.specs.Calls.{Op, opRecord}
-use Rattle.copy_row.specs.Trace.{OP-WIDTH, opLimits, goodOp, copyAnswer}
+use Rattle.copy_row.specs.Trace.{OP-WIDTH, goodOp, copyAnswer}
+use Rattle.copy_row.proofs.Ops.{op-record-length, OpWithin, within-good}
 use Rattle.copy_meaning.specs.Steps.{All, empty, ends, more, LiveStep}
-use Rattle.demand.specs.Demand.{Each}
 use Rattle.demand.proofs.RowLists.{flatMap-length}
 
--- Each number at most its limit
+-- Fields among their values
 
-each-at : (r limits : List ℕ) → Each (λ (x m : ℕ). x ≤ m) r limits → (i : ℕ) → getD r i 0 ≤ getD limits i 0
-each-at [] [] each i = omega arith
-each-at [] (m ∷ limits) each i = absurd each
-each-at (x ∷ r) [] each i = absurd each
-each-at (x ∷ r) (m ∷ limits) each zero = each .0
-each-at (x ∷ r) (m ∷ limits) each (suc i) = each-at r limits (each .1) i
+below-bytes : (v : List ℕ) → All (λ (b : ℕ). b < 256) v → Below 8 v
+unfolding Below
+below-bytes [] b = tt
+below-bytes (x ∷ v) b = (b .0, below-bytes v (b .1))
 
-each-byte : (n : ℕ) (v : List ℕ) → length v ≡ n → All (λ (b : ℕ). b < 256) v → Each (λ (x m : ℕ). x ≤ m) v (replicate n 255)
-each-byte zero [] e b = tt
-each-byte zero (x ∷ v) e b = absurd (omega arith)
-each-byte (suc n) [] e b = absurd (omega arith)
-each-byte (suc n) (x ∷ v) e b = (omega (arith, b .0), each-byte n v (omega arith) (b .1))
-
-module _ (gap : ℕ) where
-  end-bit : (o : Op) → LiveStep gap o → o .end ≤ 1
-  end-bit o s =
-      elim (s .move) [ empty c first end ↦ omega arith | ends end c src dst ↦ omega arith | more end c src dst ↦ omega arith ]
-
-  width-byte : (o : Op) → LiveStep gap o → o .piece .width ≤ 255
-  width-byte o s = elim (s .piece .wide) [ inl e ↦ omega arith | inr e ↦ omega arith ]
-
-  record-each : (o : Op) → LiveStep gap o → Each (λ (x m : ℕ). x ≤ m) (opRecord o) opLimits
-  unfolding opLimits
-  record-each o s =
-      let w = s .words in (
-        omega arith,
-        (
-          omega arith,
-          (
-            omega arith,
-            (
-              omega arith,
-              (
-                width-byte o s,
-                (s .bits, (end-bit o s, (w .kind, each-byte 8 (o .piece .value) (s .piece .eight) (s .piece .bytes)))),
-              ),
-            ),
-          ),
-        ),
-      )
-
-  record-good : (o : Op) → LiveStep gap o → goodOp (opRecord o) ≡ true
-  unfolding opLimits
-  record-good o s =
-      within-all opLimits (opRecord o) (omega (arith, s .piece .eight)) (λ i h. each-at (opRecord o) opLimits (record-each o s) i)
+step-within : (gap : ℕ) (o : Op) → LiveStep gap o → OpWithin o
+step-within gap o s =
+    record {
+      kind = s .words .kind;
+      stamp = s .words .stamp;
+      src = s .words .src;
+      dst = s .words .dst;
+      count = s .words .count;
+      width = elim (s .piece .wide) [ inl e ↦ omega arith | inr e ↦ omega arith ];
+      eight = s .piece .eight;
+      bytes = below-bytes (o .piece .value) (s .piece .bytes);
+      first = s .bits;
+      end = elim (s .move) [ empty c first end ↦ omega arith | ends end c src dst ↦ omega arith | more end c src dst ↦ omega arith ];
+    }
 
 -- Record k of the records joined
 
@@ -85,7 +60,7 @@ record-shift w r l k wide =
 module _ (gap : ℕ) where
   pub records-wide : (os : List Op) → All (LiveStep gap) os → All (λ (o : Op). length (opRecord o) ≡ OP-WIDTH) os
   records-wide [] s = tt
-  records-wide (o ∷ os) s = (omega (arith, s .0 .piece .eight), records-wide os (s .1))
+  records-wide (o ∷ os) s = (op-record-length o (s .0 .piece .eight), records-wide os (s .1))
 
   -- how many records
   pub records-count : (os : List Op) → All (LiveStep gap) os → recordCount OP-WIDTH (flatMap opRecord os) ≡ length os
@@ -96,7 +71,7 @@ module _ (gap : ℕ) where
   unfolding flatMap
   each-good [] s k h = absurd (omega arith)
   each-good (o ∷ os) s zero h =
-      ap goodOp (take-at (opRecord o) (flatMap opRecord os) OP-WIDTH (records-wide (o ∷ os) s .0)) ∙ record-good gap o (s .0)
+      ap goodOp (take-at (opRecord o) (flatMap opRecord os) OP-WIDTH (records-wide (o ∷ os) s .0)) ∙ within-good o (step-within gap o (s .0))
   each-good (o ∷ os) s (suc k) h =
       ap goodOp (record-shift OP-WIDTH (opRecord o) (flatMap opRecord os) k (records-wide (o ∷ os) s .0)) ∙ each-good os (s .1) k (omega arith)
 

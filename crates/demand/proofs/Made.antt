@@ -14,38 +14,28 @@ use Rattle.records.specs.Table.{rowAt}
 use Rattle.records.specs.declared.TableAnswer.the-variants.{Made}
 use Rattle.records.proofs.Flat.{row-within}
 use Rattle.records.proofs.RowCount.{row-count-covers}
-use Rattle.records.proofs.Table.{MadeFacts, made-facts, row-record, row-padding, made-row, after-length}
+use Rattle.records.proofs.Table.{MadeFacts}
 use Rattle.copy_row.specs.Columns.{COLUMNS}
-use Rattle.copy_row.specs.Calls.{Op, opRecord, opOf}
+use Rattle.copy_row.specs.Calls.{Op, opRecord}
 use Rattle.copy_row.specs.Rows.{tableRow, paddingRow}
 use Rattle.copy_row.specs.Trace.{OP-WIDTH, goodOp, copyRow, copyAnswer, copyAfter}
+use Rattle.copy_row.proofs.Ops.{op-of-record}
+use Rattle.copy_row.proofs.CopyTable.{copyRowAt, made-facts, made-row, after-length, row-of-record, row-of-none}
 use Rattle.copy_meaning.specs.Steps.{All, LiveStep}
 use Rattle.copy_meaning.proofs.Check.{fine-passing}
 use Rattle.copy_meaning.proofs.RowIff.{padding-passes}
-use Rattle.copy_meaning.proofs.ReadBack.{eight-back}
 use Rattle.chain.specs.Chain.{rowsFrom, rowsOf}
 use Rattle.calls.specs.Cuts.{CutCall, opsOf, Fits}
 use Rattle.calls.proofs.Chained.{chain}
 use Rattle.demand.specs.Demand.{DeadRow, WholeCalls}
-use Rattle.demand.proofs.MadeRows.{row-wide}
 use Rattle.demand.proofs.RowLists.{listed, listed-same, run-taken, rows-listed}
 use Rattle.demand.proofs.Whole.{steps, whole-calls}
 use Rattle.demand.proofs.GoodRecords.{record-shift, records-wide, records-count}
 
 -- Rows of the table
 
-copy-wide : (r : List ℕ) → length (copyRow r) ≡ COLUMNS
-copy-wide r = row-wide 1 (opOf r)
-
-padding-wide : length paddingRow ≡ COLUMNS
-unfolding paddingRow
-padding-wide = refl
-
-abbrev madeRow : List ℕ → ℕ → List ℕ
-madeRow l k = rowAt OP-WIDTH copyRow paddingRow l k
-
 -- with one more record in front, each row stands one later
-row-shift : (r l : List ℕ) (k : ℕ) → length r ≡ OP-WIDTH → madeRow (r ++ l) (suc k) ≡ madeRow l k
+row-shift : (r l : List ℕ) (k : ℕ) → length r ≡ OP-WIDTH → copyRowAt (r ++ l) (suc k) ≡ copyRowAt l k
 unfolding rowAt
 row-shift r l k wide =
     let count : recordCount OP-WIDTH (r ++ l) ≡ suc (recordCount OP-WIDTH l) = omega (arith, length-append r l) in
@@ -54,17 +44,11 @@ row-shift r l k wide =
     (ap (ltb (suc k)) count ∙ leb·suc-suc (suc k) (recordCount OP-WIDTH l))
     (record-shift OP-WIDTH r l k wide)
 
--- the operation record of its 16 numbers
-record-back : (o : Op) → length (o .piece .value) ≡ 8 → opOf (opRecord o) ≡ o
-record-back o eight =
-    let value = eight-back (o .piece .value) eight in
-    λ i.
-    record { call = o .call; piece = record { width = o .piece .width; value = value i }; first = o .first; end = o .end }
-
-listed-padding : (rows : ℕ) → listed (madeRow []) rows ≡ replicate rows paddingRow
+-- no record at all
+listed-padding : (rows : ℕ) → listed (copyRowAt []) rows ≡ replicate rows paddingRow
 unfolding listed
 listed-padding rows =
-    listed-same (madeRow []) (λ k. paddingRow) rows (λ k h. row-padding OP-WIDTH copyRow paddingRow [] k (omega arith)) ∙ go rows
+    listed-same (copyRowAt []) (λ k. paddingRow) rows (λ k h. row-of-none [] k (omega arith)) ∙ go rows
   where
     go : (n : ℕ) → listed (λ k. paddingRow) n ≡ replicate n paddingRow
     go zero = refl
@@ -72,15 +56,15 @@ listed-padding rows =
 
 module _ (gap : ℕ) where
   -- the row of the first record
-  head-row : (o : Op) (l : List ℕ) → LiveStep gap o → length (opRecord o) ≡ OP-WIDTH → madeRow (opRecord o ++ l) 0 ≡ tableRow o
+  head-row : (o : Op) (l : List ℕ) → LiveStep gap o → length (opRecord o) ≡ OP-WIDTH → copyRowAt (opRecord o ++ l) 0 ≡ tableRow o
   head-row o l s wide =
-      row-record OP-WIDTH copyRow paddingRow (opRecord o ++ l) 0 (omega (arith, length-append (opRecord o) l))
+      row-of-record (opRecord o ++ l) 0 (omega (arith, length-append (opRecord o) l))
       ∙ ap copyRow (take-at (opRecord o) l OP-WIDTH wide)
-      ∙ ap tableRow (record-back o (s .piece .eight))
+      ∙ ap tableRow (op-of-record o (s .piece .eight))
 
   -- the rows of the records, then padding
   listed-rows : (os : List Op) (rows : ℕ) → All (LiveStep gap) os → length os ≤ rows
-      → listed (madeRow (flatMap opRecord os)) rows ≡ map tableRow os ++ replicate (rows - length os) paddingRow
+      → listed (copyRowAt (flatMap opRecord os)) rows ≡ map tableRow os ++ replicate (rows - length os) paddingRow
   unfolding listed flatMap
   listed-rows [] rows s h = let all : rows ≡ rows - 0 = omega arith in listed-padding rows ∙ ap (λ n. replicate n paddingRow) all
   listed-rows (o ∷ os) zero s h = absurd (omega arith)
@@ -114,8 +98,7 @@ module _ (gap limit : ℕ) (small : limit ≤ 2 ^ 63) (ks : List CutCall) (fits 
   live = steps gap none (opsOf ks) (chain gap ks fits)
 
   facts : MadeFacts limit COLUMNS (recordCount OP-WIDTH records) (firstBad OP-WIDTH goodOp records) (length table) rows
-  unfolding copyAnswer
-  facts = made-facts limit COLUMNS (recordCount OP-WIDTH records) (firstBad OP-WIDTH goodOp records) (length table) rows made
+  facts = made-facts limit records (length table) rows made
 
   covers : length (opsOf ks) ≤ rows
   covers =
@@ -123,23 +106,20 @@ module _ (gap limit : ℕ) (small : limit ≤ 2 ^ 63) (ks : List CutCall) (fits 
       omega (arith, records-count gap (opsOf ks) live, facts .count, row-count-covers (recordCount OP-WIDTH records) most)
 
   written-length : length written ≡ COLUMNS * rows
-  unfolding copyAfter
   written-length =
-      length-take-le (COLUMNS * rows) (copyAfter records (Made rows) table)
-      (omega (arith, facts .fits, after-length OP-WIDTH copyRow paddingRow records (Made rows) table))
+      length-take-le (COLUMNS * rows) (copyAfter records (Made rows) table) (omega (arith, facts .fits, after-length records (Made rows) table))
 
-  written-row : (k : ℕ) → k < rows → recordAt COLUMNS written k ≡ madeRow records k
-  unfolding copyAfter
+  written-row : (k : ℕ) → k < rows → recordAt COLUMNS written k ≡ copyRowAt records k
   written-row k h =
       run-taken COLUMNS (COLUMNS * k) (COLUMNS * rows) (copyAfter records (Made rows) table) (row-within COLUMNS k rows h)
-      ∙ made-row COLUMNS OP-WIDTH copyRow paddingRow copy-wide padding-wide records table rows k (facts .fits) h
+      ∙ made-row records table rows k (facts .fits) h
 
   written-rows : rowsOf written ≡ map tableRow (opsOf ks) ++ replicate (rows - length (opsOf ks)) paddingRow
   written-rows =
       let e : length written / COLUMNS ≡ rows = omega (arith, written-length) in
       ap (λ n. rowsFrom n written) e
       ∙ rows-listed rows written
-      ∙ listed-same (recordAt COLUMNS written) (madeRow records) rows written-row
+      ∙ listed-same (recordAt COLUMNS written) (copyRowAt records) rows written-row
       ∙ listed-rows gap (opsOf ks) rows live covers
 
   -- the rows written are those of these calls, then padding

@@ -3,19 +3,14 @@ use mathlib.Core.Path.{_≡_, refl, _∙_}
 use mathlib.Core.List.{[], _∷_}
 use Prim.Native.Nat.{ℕ, _+_, _*_, _%_, _^_}
 use native.Mathlib.Omega.{arith}
-use lib.ListN.{length}
 use Rattle.words.specs.Words.{number}
 use Rattle.words.proofs.Digits.{number-digits}
-use Rattle.copy_row.specs.Columns.{at, SRC, MU, COLUMNS}
+use Rattle.copy_row.specs.Columns.{at, SRC, MU}
 use Rattle.copy_row.specs.Calls.{Op}
 use Rattle.copy_row.specs.Rows.{rowOf}
 use Rattle.copy_meaning.specs.ReadRow.{wordsAt, opAt}
 
 module _ (mu : ℕ) (o : Op) where
-  pub row-wide : length (rowOf mu o) ≡ COLUMNS
-  unfolding rowOf
-  row-wide = refl
-
   pub row-mu : at (rowOf mu o) MU ≡ mu
   unfolding rowOf
   row-mu = refl

@@ -12,6 +12,7 @@ use lib.ListN.{length}
 use Rattle.copy_row.specs.Columns.{at, MU, COLUMNS}
 use Rattle.copy_row.specs.Calls.{Call, Op}
 use Rattle.copy_row.specs.Rows.{tableRow}
+use Rattle.copy_row.proofs.Rows.{row-wide}
 use Rattle.copy_meaning.specs.Steps.{All, LiveStep}
 use Rattle.copy_meaning.specs.RowIff.{CallRow}
 use Rattle.copy_meaning.proofs.Check.{fine-passing, passing-fine}
@@ -26,7 +27,7 @@ use Rattle.calls.specs.Chain.{next, Chain}
 use Rattle.calls.proofs.Parse.{parse}
 use Rattle.calls.proofs.Chained.{chain}
 use Rattle.demand.specs.Demand.{Passes, liveRows, DeadRow, Each, WholeCalls}
-use Rattle.demand.proofs.MadeRows.{row-wide, row-mu}
+use Rattle.demand.proofs.MadeRows.{row-mu}
 use Rattle.demand.proofs.Verdict.{Accepted, DeadFine, accepted-good, good-passes}
 use Rattle.demand.proofs.RowLists.{rows-length, rows-of-wide}
 
