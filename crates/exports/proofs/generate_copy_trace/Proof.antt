@@ -7,7 +7,7 @@ use Rattle.exports.proofs.generate_copy_trace.Tie as tie
 
 returns : tie.Need-returns
 returns c =
-    (c .numbers .ensures ∙ c .before .before .generate-copy-trace .ensures .0, c .before .before .generate-copy-trace .ensures .1)
+    (c .numbers .ensures ∙ c .before .before .before .generate-copy-trace .ensures .0, c .before .before .before .generate-copy-trace .ensures .1)
 
 pub generate-copy-trace-spec : {M : Type 1} → statement M
 generate-copy-trace-spec =
