@@ -1,6 +1,6 @@
 -- `window::accesses::read_cells` meets its contract: what was read is what the record is made of. Assumes nothing.
 use borrow.Author.Needs.{needs}
-use mathlib.Core.Path.{_≡_, _∙_}
+use mathlib.Core.Path.{_∙_}
 use denote.Ref.{now}
 use Rattle.window.proofs.Window.{read-record}
 use Rattle.window.proofs.accesses.read_cells.Statement.{statement}

@@ -1,6 +1,6 @@
 -- `window::accesses::write_back` meets its contract. Assumes nothing.
 use borrow.Author.Needs.{needs}
-use mathlib.Core.Path.{_≡_, _∙_}
+use mathlib.Core.Path.{_∙_}
 use Rattle.window.proofs.accesses.write_back.Statement.{statement}
 use Rattle.window.proofs.accesses.write_back.Tie as tie
 

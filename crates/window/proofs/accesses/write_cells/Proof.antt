@@ -1,6 +1,6 @@
 -- `window::accesses::write_cells` meets its contract: what was read first is what the record is made of. Assumes nothing.
 use borrow.Author.Needs.{needs}
-use mathlib.Core.Path.{_≡_, _∙_}
+use mathlib.Core.Path.{_∙_}
 use denote.Ref.{now}
 use Rattle.window.proofs.Window.{write-record}
 use Rattle.window.proofs.accesses.write_cells.Statement.{statement}

@@ -1,6 +1,6 @@
 -- `window::cells::read_stamps` meets its contract: both ways are the same read. Assumes nothing.
 use borrow.Author.Needs.{needs}
-use mathlib.Core.Path.{_≡_, sym, ap, _∙_}
+use mathlib.Core.Path.{sym, ap, _∙_}
 use Prim.Native.Nat.{ℕ}
 use denote.Ref.{now}
 use Rattle.window.specs.Window.{cellsAt}
