@@ -36,12 +36,19 @@ pub struct Parts {
     pub dst_high: u64,
 }
 
-// The word of the two halves from column c on.
+// The word of the two halves from column c on, at once where they are halves.
 pub fn halves_word(row: &[u64], c: usize) -> u64
     requires { ⌜ Elements (now row) × (c + 1 < COLUMNS) ⌝ }
     ensures { λ r. ⌜ Is (halvesWord (now (row .entry)) c) r ⌝ }
 {
-    element::add(cell(row, c), element::mul(65536, cell(row, c + 1)))
+    let low = cell(row, c);
+    let high = cell(row, c + 1);
+    if low < 65536 {
+        if high < 65536 {
+            return low + 65536 * high;
+        }
+    }
+    element::add(low, element::mul(65536, high))
 }
 
 // The row's width, at once for the two values of SINGLE that a right row has.
