@@ -1,0 +1,7 @@
+pub mod InRange
+pub mod Missed
+pub mod ZeroResidues
+pub mod RowFaults
+pub mod ResidueAnswers
+pub mod Gate
+pub mod CountBorrow
