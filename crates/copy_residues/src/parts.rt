@@ -16,7 +16,7 @@ use field::element;
 ghost use mathlib.Core.Path.{_≡_};
 ghost use Prim.Native.Nat.{_+_, _<_};
 ghost use Rattle.field.specs.Field.{p};
-ghost use Rattle.field.specs.Carry.{carryP, carryLow, carryHigh};
+ghost use Rattle.field.specs.Carries.{carryP, carryLow, carryHigh};
 ghost use Rattle.copy_row.specs.Columns.{COLUMNS};
 ghost use Rattle.copy_residues.specs.Cells.{Elements, Is, PartsOf};
 ghost use Rattle.copy_residues.specs.Residues.{halvesWord, step, incrLow, incrHigh, decrLow, resLow, resHigh, gapLow, gapHigh, borrow};
