@@ -1,7 +1,7 @@
 -- The starred examples on residues, each computed. Assumes nothing.
 use mathlib.Core.Path.{refl}
 use Rattle.field.specs.Field.{addP, subP, mulP, bitP}
-use Rattle.field.specs.Carry.{carryP, carryLow, carryHigh}
+use Rattle.field.specs.Carries.{carryP, carryLow, carryHigh}
 use Rattle.records.specs.Lists.{first}
 use Rattle.copy_row.specs.Rows.{rowOf}
 use Rattle.copy_residues.specs.Range.{columnLimits, firstLarge, firstOut}

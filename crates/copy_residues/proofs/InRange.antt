@@ -1,20 +1,19 @@
--- What it says of a row that the searches for a number out of range run to the end, and the other way round. Document 01: "In range: all
--- 41 numbers elements, VALUE below 256, WL columns words, HL columns halves." Assumes nothing.
-use mathlib.Core.Path.{_≡_, _∙_}
+-- The tests of the two searches of a row, for a number that is no element and for a column out of range, and what it says that the first
+-- runs to the end. Document 01: "In range: all 41 numbers elements, VALUE below 256, WL columns words, HL columns halves." Assumes nothing.
+use mathlib.Core.Path.{_≡_}
 use mathlib.Core.Bool.{Bool}
 use mathlib.Core.List.{List}
 use Prim.Native.Nat.{ℕ, _≤_, _<_}
 use native.Mathlib.Decide.{decLt}
 use native.Mathlib.Omega.{arith}
-use borrow.Author.Tests.{leb-false, lt-leb}
+use borrow.Author.Tests.{leb-false}
 use lib.Dec.{leb}
 use lib.ListN.{length, getD, List·getD-eq-default}
 use Rattle.field.specs.Field.{p}
-use Rattle.records.specs.Lists.{first}
-use Rattle.records.proofs.First.{first-none, first-all}
+use Rattle.records.proofs.First.{first-none}
 use Rattle.copy_row.specs.Columns.{at, COLUMNS}
 use Rattle.copy_residues.specs.Cells.{Elements}
-use Rattle.copy_residues.specs.Range.{columnLimits, firstLarge, firstOut}
+use Rattle.copy_residues.specs.Range.{columnLimits, firstLarge}
 
 -- the two tests
 abbrev pub large : List ℕ → ℕ → Bool
@@ -36,16 +35,3 @@ each-below row h c = below (decLt c (length row))
 
 pub elements : (row : List ℕ) → length row ≡ COLUMNS → COLUMNS ≤ firstLarge row → Elements row
 elements row w h = record { wide = w; each = each-below row (omega arith) }
-
-pub no-large : (row : List ℕ) → ((c : ℕ) → c < length row → at row c < p) → firstLarge row ≡ length row
-unfolding firstLarge
-no-large row h = first-all (large row) 0 (length row) (λ c a b. lt-leb _ _ (h c (omega arith))) ∙ omega arith
-
--- where no column is out of range, each is below its limit
-pub in-range : (row : List ℕ) → COLUMNS ≤ firstOut row → (c : ℕ) → c < COLUMNS → at row c < getD columnLimits c 0
-unfolding firstOut
-in-range row h c l = leb-false _ _ (first-none (out row) 0 COLUMNS c h (omega arith) l)
-
-pub none-out : (row : List ℕ) → ((c : ℕ) → c < COLUMNS → at row c < getD columnLimits c 0) → firstOut row ≡ COLUMNS
-unfolding firstOut
-none-out row h = first-all (out row) 0 COLUMNS (λ c a b. lt-leb _ _ (h c b))

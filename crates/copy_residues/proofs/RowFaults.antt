@@ -1,6 +1,6 @@
 -- The four things that the checks of a row of 41 numbers can find, by the searches that find them, and what it is to find nothing.
 -- Document 01: "then row by row 14 to 17". Assumes nothing.
-use mathlib.Core.Path.{_≡_, refl, sym, ap, _∙_}
+use mathlib.Core.Path.{_≡_}
 use mathlib.Core.List.{List}
 use Prim.Native.Nat.{ℕ, _≤_, _<_}
 use native.Mathlib.Omega.{arith}

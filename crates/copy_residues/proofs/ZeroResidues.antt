@@ -1,19 +1,16 @@
--- What it says of a row that the search for a residue that is not 0 runs to the end, and the other way round; and that every residue is
--- an element. Document 01, refusal 16: "a residue not 0; its index comes too". Assumes nothing.
-use mathlib.Core.Path.{_≡_, refl, sym, ap, _∙_}
-use mathlib.Core.Bool.{Bool, true, false, cond, not, true≢false}
+-- One turn of the search for a residue that is not 0, and that every residue is an element. Document 01, refusal 16: "a residue not 0; its
+-- index comes too". Assumes nothing.
+use mathlib.Core.Path.{_≡_, sym, ap, _∙_}
+use mathlib.Core.Bool.{Bool, true, false, cond, not}
 use mathlib.Core.List.{List, [], _∷_}
-use Prim.Native.Nat.{ℕ, zero, suc, _-_, _≤_, _<_}
+use Prim.Native.Nat.{ℕ, zero, suc, _-_, _<_}
 use native.Mathlib.Omega.{arith}
-use borrow.Author.Tests.{eq-eqb, ne-eqb, eqb-true}
+use borrow.Author.Tests.{eq-eqb, ne-eqb}
 use lib.Dec.{eqb, ltb}
 use lib.ListN.{getD}
 use Rattle.field.specs.Field.{p}
 use Rattle.field.proofs.Laws.{mul-below, sub-below, bit-below}
-use Rattle.records.specs.Lists.{first}
-use Rattle.records.proofs.First.{first-none, first-all}
-use Rattle.copy_residues.specs.Residues.{impliesMu, oneHot, firstWrite, gatedBit, dstResNonWrite, singleLane, borrowImplies, borrowImpliesZero, endImplies, muComIs, muComWideIs, noWrap, gapNoWrap, front, back, residue, RESIDUES}
-use Rattle.copy_residues.specs.RowCheck.{firstResidue}
+use Rattle.copy_residues.specs.Residues.{impliesMu, oneHot, firstWrite, gatedBit, dstResNonWrite, singleLane, borrowImplies, borrowImpliesZero, endImplies, muComIs, muComWideIs, noWrap, gapNoWrap, front, back, residue}
 
 -- ---- the search
 
@@ -27,21 +24,6 @@ found e h = ap not (ne-eqb _ 0 (λ z. h (e ∙ z)))
 
 pub passed : {v w : ℕ} → v ≡ w → v ≡ 0 → not (eqb w 0) ≡ false
 passed e z = ap not (eq-eqb _ 0 (sym e ∙ z))
-
--- where it runs to the end, each residue is 0
-zero-where : (v : ℕ) (b : Bool) → eqb v 0 ≡ b → not b ≡ false → v ≡ 0
-zero-where v true e h = eqb-true v 0 e
-zero-where v false e h = absurd (true≢false h)
-
-pub zero-residue : (gap : ℕ) (row : List ℕ) → RESIDUES ≤ firstResidue gap row → (i : ℕ) → i < RESIDUES → residue gap row i ≡ 0
-unfolding firstResidue
-zero-residue gap row h i l =
-    zero-where _ _ refl (first-none (notZero gap row) 0 RESIDUES i h (omega arith) l)
-
--- and where each is 0, it runs to the end
-pub all-zero : (gap : ℕ) (row : List ℕ) → ((i : ℕ) → i < RESIDUES → residue gap row i ≡ 0) → firstResidue gap row ≡ RESIDUES
-unfolding firstResidue
-all-zero gap row h = first-all (notZero gap row) 0 RESIDUES (λ i a b. ap not (eq-eqb _ 0 (h i b)))
 
 -- ---- residues are elements
 
@@ -60,74 +42,11 @@ cond-below false x y h k = k
 
 front-below : (gap : ℕ) (row : List ℕ) → AllBelow (front gap row)
 unfolding impliesMu oneHot firstWrite gatedBit dstResNonWrite
-front-below gap row = (
-  bit-below _,
-  (
-    bit-below _,
-    (
-      bit-below _,
-      (
-        bit-below _,
-        (
-          bit-below _,
-          (
-            bit-below _,
-            (
-              mul-below _ _,
-              (
-                mul-below _ _,
-                (
-                  mul-below _ _,
-                  (
-                    sub-below _ _,
-                    (
-                      bit-below _,
-                      (
-                        bit-below _,
-                        (
-                          bit-below _,
-                          (
-                            bit-below _,
-                            (
-                              bit-below _,
-                              (
-                                bit-below _,
-                                (mul-below _ _, (mul-below _ _, (mul-below _ _, (mul-below _ _, (mul-below _ _, (mul-below _ _, tt)))))),
-                              ),
-                            ),
-                          ),
-                        ),
-                      ),
-                    ),
-                  ),
-                ),
-              ),
-            ),
-          ),
-        ),
-      ),
-    ),
-  ),
-)
+front-below gap row = search (bit-below, mul-below, sub-below) depth 24
 
 back-below : (gap : ℕ) (row : List ℕ) → AllBelow (back gap row)
 unfolding borrowImplies borrowImpliesZero endImplies muComIs muComWideIs noWrap gapNoWrap
-back-below gap row = (
-  mul-below _ _,
-  (
-    mul-below _ _,
-    (
-      mul-below _ _,
-      (
-        mul-below _ _,
-        (
-          mul-below _ _,
-          (mul-below _ _, (sub-below _ _, (sub-below _ _, (mul-below _ _, (mul-below _ _, (mul-below _ _, tt)))))),
-        ),
-      ),
-    ),
-  ),
-)
+back-below gap row = search (bit-below, mul-below, sub-below)
 
 pub residue-below : (gap : ℕ) (row : List ℕ) (i : ℕ) → residue gap row i < p
 unfolding residue singleLane

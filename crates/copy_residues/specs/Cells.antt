@@ -1,4 +1,5 @@
--- What the code of the residues is given: a row of 41 elements, and what many residues of a row share, worked out once. Assumes nothing.
+-- What the code of the residues is given: a row of 41 elements (document 01: "An element is a whole number below p"), and what many
+-- residues of a row share, worked out once. Assumes nothing.
 use mathlib.Core.Path.{_≡_}
 use mathlib.Core.List.{List}
 use Prim.Native.Nat.{ℕ, _<_}

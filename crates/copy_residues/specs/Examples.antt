@@ -1,7 +1,7 @@
 -- Document 01's starred examples on residues, computed over the definitions: "rows made from Copy records, unnamed fields 0", and a dead
 -- row. The gap is that of the Rust, 8; no residue of these rows depends on it. Assumes nothing.
 use mathlib.Core.Path.{_≡_}
-use mathlib.Core.List.{List, [], _∷_, _++_}
+use mathlib.Core.List.{List, _∷_, _++_}
 use Prim.Native.Nat.{ℕ, _-_, _^_}
 use lib.ListN.{replicate}
 use Rattle.copy_row.specs.Trace.{copyRow}

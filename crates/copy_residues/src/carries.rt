@@ -2,11 +2,11 @@
 // "c0 = (lo + lo − sum lo) × 2^−32, c1 = (hi + hi + c0 − sum hi) × 2^−32". Each is found at once on the rows of right calls, with no
 // product. Assumes nothing.
 use crate::cells::cell;
-use crate::cols;
+use copy_row::cols;
 use field::element;
 ghost use Prim.Native.Nat.{_+_, _<_};
 ghost use Rattle.field.specs.Field.{p};
-ghost use Rattle.field.specs.Carry.{carryP, carryLow, carryHigh};
+ghost use Rattle.field.specs.Carries.{carryP, carryLow, carryHigh};
 ghost use Rattle.copy_row.specs.Columns.{COLUMNS};
 ghost use Rattle.copy_residues.specs.Cells.{Elements, Is};
 ghost use Rattle.copy_residues.specs.Residues.{halvesWord, step, incrLow, incrHigh, decrLow, resLow, resHigh, gapLow, gapHigh, borrow};
@@ -109,7 +109,7 @@ pub fn count_borrow(row: &[u64], low: u64) -> u64
     ensures { λ r. ⌜ Is (borrow (now (row .entry))) r ⌝ }
 {
     carry_high(
-        halves_word(row, cols::COUNT_DECR_2),
+        halves_word(row, cols::COUNT_DECR_0 + 2),
         0,
         low,
         cell(row, cols::COUNT_1),
@@ -136,7 +136,7 @@ pub fn res_high(row: &[u64]) -> u64
         cell(row, cols::DST_1),
         cell(row, cols::COUNT_1),
         res_low(row),
-        halves_word(row, cols::DST_RES_2),
+        halves_word(row, cols::DST_RES_0 + 2),
     )
 }
 

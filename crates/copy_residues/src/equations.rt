@@ -1,9 +1,9 @@
-// Internal to the crate: the equations of `CopyConstraints` in copy.rs, one function for each kind, by the names
-// of its constraints. Each gives the equation's left side on a row of elements, and says what a row could do without it. Where a factor
-// is 0 on the rows of right calls, it is looked at first. Assumes nothing.
+// Internal to the crate: the equations of `CopyConstraints` in copy.rs, one function for each kind, by the names of its constraints. Each
+// gives the equation's left side on a row of elements; its comment says what a row could do without it. A factor that is 0 on the rows of
+// right calls is looked at first. Assumes nothing.
 use crate::carries;
 use crate::cells::cell;
-use crate::cols;
+use copy_row::cols;
 use field::element;
 ghost use mathlib.Core.Path.{_≡_};
 ghost use Prim.Native.Nat.{_+_, _<_};
@@ -21,8 +21,8 @@ pub fn bit(row: &[u64], c: usize) -> u64
     element::is_bit(cell(row, c))
 }
 
-// first_or_end_implies_mu (FIRST, END), functionality_implies_mu (IS_SET, IS_WRITE): a mark stands on a live row only. Without it a dead
-// row could open or close a call.
+// first_or_end_implies_mu (FIRST, END), functionality_implies_mu (IS_SET, IS_WRITE): these flags stand on a live row only. Without it a
+// dead row could open or end a call, or be a Set or a Write.
 pub fn implies_mu(row: &[u64], a: usize, b: usize) -> u64
     requires { ⌜ Elements (now row) × (a < COLUMNS) × (b < COLUMNS) ⌝ }
     ensures { λ r. ⌜ r ≡ impliesMu (now (row .entry)) a b ⌝ }

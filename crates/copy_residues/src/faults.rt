@@ -1,10 +1,10 @@
 // Internal to the workspace, not open to callers: the checks of one copy row, 14, 15 and 16, in document 01's order. Assumes nothing.
 use crate::RowFault;
-use crate::cols;
 use crate::range::first_large;
 use crate::range::first_out;
 use crate::residues::NUM_RESIDUES;
 use crate::residues::first_residue;
+use copy_row::cols;
 ghost use mathlib.Core.Path.{_≡_};
 ghost use Prim.Native.Nat.{_^_, _<_};
 ghost use lib.ListN.{length};

@@ -2,7 +2,6 @@
 // residues are those of `CopyConstraints`, gap for `DMA_MEMSET_GAP`." Assumes nothing.
 mod carries;
 mod cells;
-pub mod cols;
 mod equations;
 pub mod faults;
 pub mod parts;
@@ -12,6 +11,7 @@ pub mod residues;
 use answer::Answer;
 use answer::accept;
 use answer::refuse;
+use copy_row::cols;
 use parts::parts_of;
 use range::first_large;
 use residues::NUM_RESIDUES;

@@ -1,6 +1,6 @@
 // Internal to the workspace, not open to callers: what many residues of a copy row share, worked out once a row. Assumes nothing.
 use crate::carries;
-use crate::cols;
+use copy_row::cols;
 ghost use mathlib.Core.Path.{_≡_};
 ghost use Prim.Native.Nat.{_<_};
 ghost use Rattle.field.specs.Field.{p};

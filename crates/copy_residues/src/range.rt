@@ -1,6 +1,6 @@
 // Internal to the workspace, not open to callers: the range of a copy row's columns. Document 01: "In range: all 41 numbers elements,
 // VALUE below 256, WL columns words, HL columns halves." A row is a slice of its own. Assumes nothing.
-use crate::cols;
+use copy_row::cols;
 use field::element::P;
 ghost use mathlib.Core.Path.{_≡_};
 ghost use lib.ListN.{length};

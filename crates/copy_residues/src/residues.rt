@@ -1,8 +1,8 @@
 // Internal to the workspace, not open to callers: the 40 residues of a copy row by their numbers. Assumes nothing.
-use crate::cols;
 use crate::equations;
 use crate::parts::Parts;
 use crate::parts::parts_of;
+use copy_row::cols;
 use field::element;
 ghost use mathlib.Core.Path.{_≡_};
 ghost use Prim.Native.Nat.{_<_};

@@ -4,7 +4,7 @@ use mathlib.Core.Path.{sym, ap, _∙_}
 use Prim.Native.Nat.{ℕ}
 use Rattle.field.specs.Field.{mulP}
 use Rattle.field.specs.Constants.{inv32}
-use Rattle.field.specs.Carry.{carryP}
+use Rattle.field.specs.Carries.{carryP}
 use Rattle.copy_residues.proofs.carries.carry.Statement.{statement}
 use Rattle.copy_residues.proofs.carries.carry.Tie as tie
 

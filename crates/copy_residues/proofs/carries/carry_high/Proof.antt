@@ -1,6 +1,6 @@
 -- `carries::carry_high`: the carry of the sum. Assumes nothing.
 use borrow.Author.Needs.{needs}
-use Rattle.field.specs.Carry.{carryHigh}
+use Rattle.field.specs.Carries.{carryHigh}
 use Rattle.copy_residues.proofs.carries.carry_high.Statement.{statement}
 use Rattle.copy_residues.proofs.carries.carry_high.Tie as tie
 

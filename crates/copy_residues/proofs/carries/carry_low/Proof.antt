@@ -1,6 +1,6 @@
 -- `carries::carry_low`: the carry of the sum. Assumes nothing.
 use borrow.Author.Needs.{needs}
-use Rattle.field.specs.Carry.{carryLow}
+use Rattle.field.specs.Carries.{carryLow}
 use Rattle.copy_residues.proofs.carries.carry_low.Statement.{statement}
 use Rattle.copy_residues.proofs.carries.carry_low.Tie as tie
 

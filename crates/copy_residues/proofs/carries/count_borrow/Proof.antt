@@ -16,4 +16,4 @@ returns c = (
 
 pub count-borrow-spec : {M : Type 1} → statement M
 count-borrow-spec =
-    tie.close (tie.spec (λ c κs. search needs) (λ c κs. search needs) (λ c κs. search needs) returns)
+    tie.close (tie.spec (λ c. search needs) (λ c κs. search needs) (λ c κs. search needs) (λ c κs. search needs) returns)

@@ -12,6 +12,7 @@ res-high-spec =
     (λ c κs. search needs)
     (λ c κs. search needs)
     (λ c κs. search needs)
+    (λ c. search needs)
     (λ c κs. search needs)
     (λ c κs. search needs)
     (λ c. (rw (c .carry-high .ensures .0, c .before .halves-word .ensures .0, c .before .before .res-low .ensures .0, c .before .before .before .cell2 .ensures .0, c .before .before .before .before .cell .ensures .0), search needs)))

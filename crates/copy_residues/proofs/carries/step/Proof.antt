@@ -1,6 +1,6 @@
 -- `carries::step`: 8 and 1 where SINGLE is 0 and 1, and otherwise computed as it is defined. Assumes nothing.
 use borrow.Author.Needs.{needs}
-use mathlib.Core.Path.{_≡_, refl, sym, ap, _∙_}
+use mathlib.Core.Path.{sym, ap, _∙_}
 use Prim.Native.Nat.{ℕ, _-_}
 use Rattle.field.specs.Field.{p, addP, mulP}
 use Rattle.copy_residues.specs.Residues.{step}
