@@ -10,7 +10,7 @@ use lib.ListN.{getD}
 use borrow.Author.Tests.{eqb-true, eqb-false, eq-eqb, leb-true, not-false}
 use Rattle.records.specs.Lists.{first}
 use Rattle.records.proofs.First.{first-none}
-use Rattle.copy_row.specs.Columns.{at, VALUE, SRC, SRC-INCR, DST, DST-INCR, COUNT, COUNT-DECR, DST-RES, FIRST, END, SINGLE, IS-SET, IS-WRITE, MU, COLUMNS}
+use Rattle.copy_row.specs.Columns.{at, TIMESTAMP, VALUE, SRC, SRC-INCR, DST, DST-INCR, COUNT, COUNT-DECR, DST-RES, FIRST, END, SINGLE, IS-SET, IS-WRITE, MU, COLUMNS}
 use Rattle.copy_residues.specs.Range.{columnLimits}
 use Rattle.copy_meaning.specs.RowIff.{InRange}
 use Rattle.copy_meaning.proofs.Columns as Ranged
@@ -33,6 +33,9 @@ module _ (row : List ℕ) (fit : Fits row) where
   pub fits-range : InRange row
   unfolding Fits
   fits-range c h = omega (arith, fit c h, caps-limits c h)
+
+  pub stamp-words : TwoWords row TIMESTAMP
+  stamp-words = omega (arith, Ranged.stamp-words row fits-range)
 
   pub src-words : TwoWords row SRC
   src-words = omega (arith, Ranged.src-words row fits-range)
