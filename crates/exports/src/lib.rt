@@ -8,6 +8,11 @@ ghost use Rattle.field.specs.Answers.{addAnswer, subAnswer, mulAnswer, fieldNum
 ghost use Rattle.records.specs.Table.{tableNumbers};
 ghost use Rattle.copy_row.specs.Trace.{copyAnswer, copyAfter};
 ghost use Rattle.copy_residues.specs.Answers.{residueAnswer, residueNumbers};
+ghost use Rattle.memw.specs.declared.AccessTable.the-variants.{General, Aligned, Register};
+ghost use Rattle.memw.specs.Tables.{memwAnswer, memwAfter};
+ghost use Rattle.memw_residues.specs.Answers.{residueAnswer as memwResidueAnswer};
+ghost use Rattle.memw_residues.specs.Answers.{residueNumbers as memwResidueNumbers};
+ghost use Rattle.chain.specs.Chain.{chainAnswer, chainNumbers};
 
 // a + b modulo p, or 14.
 #[no_mangle]
@@ -48,4 +53,63 @@ pub extern "C" fn copy_residue(gap: u64, row: &[u64], number: u64) -> Answer
     ensures answer { λ r. ⌜ r ≡ residueNumbers (residueAnswer gap (now (row .entry)) number) ⌝ }
 {
     copy_residues::residue_numbers(copy_residues::residue(gap, row, number))
+}
+
+// The general table of the access records, or 8, 10, 9; the value is the number of rows.
+#[no_mangle]
+pub extern "C" fn generate_memw_trace(records: &[u64], table: &mut [u64]) -> Answer
+    ensures answer { λ r. ⌜ r ≡ tableNumbers 8 (memwAnswer General 65536 (now (records .entry)) (length (now (table .entry)))) ⌝ }
+    ensures table { λ r. ⌜ now (table .exit) ≡ memwAfter General (now (records .entry)) (memwAnswer General 65536 (now (records .entry)) (length (now (table .entry)))) (now (table .entry)) ⌝ }
+{
+    records::numbers(8, memw::generate_memw_trace(records, table))
+}
+
+// The aligned table of the access records, or 8, 10, 9.
+#[no_mangle]
+pub extern "C" fn generate_memw_aligned_trace(records: &[u64], table: &mut [u64]) -> Answer
+    ensures answer { λ r. ⌜ r ≡ tableNumbers 8 (memwAnswer Aligned 65536 (now (records .entry)) (length (now (table .entry)))) ⌝ }
+    ensures table { λ r. ⌜ now (table .exit) ≡ memwAfter Aligned (now (records .entry)) (memwAnswer Aligned 65536 (now (records .entry)) (length (now (table .entry)))) (now (table .entry)) ⌝ }
+{
+    records::numbers(8, memw::generate_memw_aligned_trace(records, table))
+}
+
+// The register table of the register records, or 8, 10, 9.
+#[no_mangle]
+pub extern "C" fn generate_memw_register_trace(records: &[u64], table: &mut [u64]) -> Answer
+    ensures answer { λ r. ⌜ r ≡ tableNumbers 8 (memwAnswer Register 65536 (now (records .entry)) (length (now (table .entry)))) ⌝ }
+    ensures table { λ r. ⌜ now (table .exit) ≡ memwAfter Register (now (records .entry)) (memwAnswer Register 65536 (now (records .entry)) (length (now (table .entry)))) (now (table .entry)) ⌝ }
+{
+    records::numbers(8, memw::generate_memw_register_trace(records, table))
+}
+
+// Residue `number` of a row of the general table, or 12, 13, 14.
+#[no_mangle]
+pub extern "C" fn memw_residue(row: &[u64], number: u64) -> Answer
+    ensures answer { λ r. ⌜ r ≡ memwResidueNumbers (memwResidueAnswer General (now (row .entry)) number) ⌝ }
+{
+    memw_residues::memw_residue_numbers(memw_residues::memw_residue(row, number))
+}
+
+// Residue `number` of a row of the aligned table, or 12, 13, 14.
+#[no_mangle]
+pub extern "C" fn memw_aligned_residue(row: &[u64], number: u64) -> Answer
+    ensures answer { λ r. ⌜ r ≡ memwResidueNumbers (memwResidueAnswer Aligned (now (row .entry)) number) ⌝ }
+{
+    memw_residues::memw_residue_numbers(memw_residues::memw_aligned_residue(row, number))
+}
+
+// Residue `number` of a row of the register table, or 12, 13, 14.
+#[no_mangle]
+pub extern "C" fn memw_register_residue(row: &[u64], number: u64) -> Answer
+    ensures answer { λ r. ⌜ r ≡ memwResidueNumbers (memwResidueAnswer Register (now (row .entry)) number) ⌝ }
+{
+    memw_residues::memw_residue_numbers(memw_residues::memw_register_residue(row, number))
+}
+
+// The chain check: how many rows passed, or 7, 13, then row by row 14 to 17, then 18.
+#[no_mangle]
+pub extern "C" fn chain_check(gap: u64, rows: &[u64]) -> Answer
+    ensures answer { λ r. ⌜ r ≡ chainNumbers (chainAnswer gap (now (rows .entry))) ⌝ }
+{
+    chain::chain_numbers(chain::chain_check(gap, rows))
 }
