@@ -1,5 +1,4 @@
 -- What it says of a row that the search for a number that is no element runs to the end. Assumes nothing.
-use mathlib.Core.Path.{_≡_}
 use mathlib.Core.Bool.{Bool}
 use mathlib.Core.List.{List}
 use Prim.Native.Nat.{ℕ, _≤_, _<_}
@@ -9,7 +8,6 @@ use borrow.Author.Tests.{leb-false}
 use lib.Dec.{leb}
 use lib.ListN.{length, List·getD-eq-default}
 use Rattle.field.specs.Field.{p}
-use Rattle.records.specs.Lists.{first}
 use Rattle.records.proofs.First.{first-none}
 use Rattle.copy_row.specs.Columns.{at}
 use Rattle.copy_residues.specs.Range.{firstLarge}

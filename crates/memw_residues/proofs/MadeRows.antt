@@ -1,6 +1,6 @@
 -- Every made row of the three access tables zeroes its residues: in a good record is_read is 0 or 1 and the width 1, 2, 4 or 8, so the
 -- flags of its row are bits of which one is set, and each CARRY is a bit; padding is 0. Assumes nothing.
-use mathlib.Core.Path.{_≡_, refl, ap, _∙_}
+use mathlib.Core.Path.{_≡_, refl}
 use mathlib.Core.Bool.{Bool, true, false, cond}
 use mathlib.Core.Logic.{⊎-elim}
 use mathlib.Core.List.{List, [], _∷_, _++_}
@@ -9,21 +9,21 @@ use native.Mathlib.Nat.{eq-or-lt-of-le}
 use native.Mathlib.Omega.{arith}
 use borrow.Author.Tests.{leb-true}
 use lib.Dec.{eqb, leb, lit≤}
-use lib.ListN.{length, getD, drop, replicate, getD-replicate, List·getD-append}
+use lib.ListN.{drop, replicate, getD-replicate, List·getD-append}
 use lib.Seq.{getD-drop}
 use Rattle.field.specs.Field.{addP, bitP}
 use Rattle.field.proofs.Laws.{bit-zero}
 use Rattle.copy_row.specs.Columns.{at}
 use Rattle.copy_row.specs.Rows.{bit}
-use Rattle.access.specs.Access.{Access, WIDTH, IS-READ, accessOf, isWidth, goodAccess}
+use Rattle.access.specs.Access.{Access, WIDTH, IS-READ, accessOf, isWidth}
 use Rattle.access.proofs.Good.{by-width, good-width, good-read}
 use Rattle.memw_rows.specs.MemwColumns as general
-use Rattle.memw_rows.specs.Rows.{carries, memwRow, alignedRow, registerRow, regRowOf}
+use Rattle.memw_rows.specs.Rows.{carries, memwRow, alignedRow, registerRow}
 use Rattle.memw.specs.Tables.{goodRecord, recordRow, paddingRow}
 use Rattle.memw.specs.declared.AccessTable.{AccessTable}
 use Rattle.memw.specs.declared.AccessTable.the-variants.{General, Aligned, Register}
 use Rattle.memw.proofs.AccessTables.{register-read, every-row}
-use Rattle.memw_residues.specs.Residues.{memwFlags, alignedFlags, flagResidue, memwResidue, alignedResidue, registerResidues, registerResidue, residueCount, tableResidue}
+use Rattle.memw_residues.specs.Residues.{memwFlags, flagResidue, memwResidue, alignedResidue, registerResidues, registerResidue, residueCount, tableResidue}
 use Rattle.memw_residues.specs.MadeRows.{MadeRowsZero}
 use Rattle.memw_residues.specs.declared.Flags.{Flags}
 use Rattle.memw_residues.proofs.Zero.{all-zero, all-bits, bit-small, sum-zero, FineFlags, flags-zero}

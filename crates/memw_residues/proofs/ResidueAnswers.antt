@@ -1,14 +1,18 @@
--- The four answers of a residue's entry, by the tests that lead to them, in document 01's order 12, 13, 14. Assumes nothing.
-use mathlib.Core.Path.{_≡_}
+-- The four answers of a residue's entry, by the tests that lead to them, in document 01's order 12, 13, 14, and that
+-- nothing is lost in the numbers of an answer. Assumes nothing.
+use mathlib.Core.Path.{_≡_, refl, ap}
 use mathlib.Core.List.{List}
 use Prim.Native.Nat.{ℕ, _≤_, _<_}
+use native.Mathlib.Omega.{arith}
 use borrow.Author.Tests.{lt-ltb, le-ltb, le-leb, lt-leb, eq-eqb, ne-eqb}
 use lib.ListN.{length}
+use Rattle.answer.specs.declared.Answer.{Answer}
 use Rattle.copy_residues.specs.Range.{firstLarge}
 use Rattle.memw.specs.Tables.{rowWidth}
 use Rattle.memw.specs.declared.AccessTable.{AccessTable}
 use Rattle.memw_residues.specs.Residues.{residueCount, tableResidue}
-use Rattle.memw_residues.specs.Answers.{residueAnswer}
+use Rattle.memw_residues.specs.Answers.{residueAnswer, residueNumbers}
+use Rattle.memw_residues.specs.declared.MemwResidueAnswer.{MemwResidueAnswer}
 use Rattle.memw_residues.specs.declared.MemwResidueAnswer.the-variants.{Residue, NoResidue, NotRow, NotElement}
 
 module _ (t : AccessTable) (row : List ℕ) (number : ℕ) where
@@ -31,3 +35,22 @@ module _ (t : AccessTable) (row : List ℕ) (number : ℕ) where
   unfolding residueAnswer
   residue-answer n w l =
       rw (lt-leb (residueCount t) number n, eq-eqb (length row) (rowWidth t) w, le-ltb (firstLarge row) (rowWidth t) l)
+
+-- two answers with the same numbers are the same case with the same value
+pub residueNumbers-injective : (x y : MemwResidueAnswer) → residueNumbers x ≡ residueNumbers y → x ≡ y
+residueNumbers-injective (Residue v) (Residue w) e = ap Residue (ap (λ (z : Answer). z .value) e)
+residueNumbers-injective (Residue v) NoResidue e = absurd (omega (arith, ap (λ (z : Answer). z .number) e))
+residueNumbers-injective (Residue v) NotRow e = absurd (omega (arith, ap (λ (z : Answer). z .number) e))
+residueNumbers-injective (Residue v) (NotElement k) e = absurd (omega (arith, ap (λ (z : Answer). z .number) e))
+residueNumbers-injective NoResidue (Residue w) e = absurd (omega (arith, ap (λ (z : Answer). z .number) e))
+residueNumbers-injective NoResidue NoResidue e = refl
+residueNumbers-injective NoResidue NotRow e = absurd (omega (arith, ap (λ (z : Answer). z .number) e))
+residueNumbers-injective NoResidue (NotElement k) e = absurd (omega (arith, ap (λ (z : Answer). z .number) e))
+residueNumbers-injective NotRow (Residue w) e = absurd (omega (arith, ap (λ (z : Answer). z .number) e))
+residueNumbers-injective NotRow NoResidue e = absurd (omega (arith, ap (λ (z : Answer). z .number) e))
+residueNumbers-injective NotRow NotRow e = refl
+residueNumbers-injective NotRow (NotElement k) e = absurd (omega (arith, ap (λ (z : Answer). z .number) e))
+residueNumbers-injective (NotElement j) (Residue w) e = absurd (omega (arith, ap (λ (z : Answer). z .number) e))
+residueNumbers-injective (NotElement j) NoResidue e = absurd (omega (arith, ap (λ (z : Answer). z .number) e))
+residueNumbers-injective (NotElement j) NotRow e = absurd (omega (arith, ap (λ (z : Answer). z .number) e))
+residueNumbers-injective (NotElement j) (NotElement k) e = ap NotElement (ap (λ (z : Answer). z .place) e)

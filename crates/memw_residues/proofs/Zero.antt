@@ -5,7 +5,7 @@ use mathlib.Core.List.{List, [], _∷_}
 use Prim.Native.Nat.{ℕ, zero, suc, _+_, _≤_, _<_}
 use native.Mathlib.Omega.{arith}
 use lib.ListN.{length, getD}
-use Rattle.field.specs.Field.{p, addP, subP, mulP, bitP}
+use Rattle.field.specs.Field.{addP, bitP}
 use Rattle.field.proofs.Laws.{bit-zero, addP-small}
 use Rattle.field.proofs.Bits.{implies-zero}
 use Rattle.copy_row.specs.Rows.{bit}

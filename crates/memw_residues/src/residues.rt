@@ -17,7 +17,7 @@ ghost use lib.ListN.{length};
 ghost use Rattle.copy_residues.specs.Range.{firstLarge};
 ghost use Rattle.memw.specs.Tables.{rowWidth};
 ghost use Rattle.memw.specs.declared.AccessTable.the-variants.{General, Aligned, Register};
-ghost use Rattle.memw_residues.specs.Residues.{memwFlags, alignedFlags, memwResidue, alignedResidue, registerResidue, residueCount, tableResidue};
+ghost use Rattle.memw_residues.specs.Residues.{memwFlags, alignedFlags, memwResidue, registerResidue, residueCount, tableResidue};
 ghost use Rattle.memw_residues.specs.Elements.{Elements, FlagElements};
 ghost use Rattle.memw_residues.specs.Answers.{residueAnswer};
 

@@ -1,5 +1,5 @@
 -- `residues::residue_in` answers by the order of its tests: each way out is one of the laws of ResidueAnswers. Assumes nothing.
-use mathlib.Core.Path.{_≡_, sym, ap, _∙_}
+use mathlib.Core.Path.{sym, ap, _∙_}
 use native.Mathlib.Omega.{arith}
 use borrow.Author.Needs.{needs}
 use Rattle.memw_residues.specs.declared.MemwResidueAnswer.the-variants.{Residue, NotElement}

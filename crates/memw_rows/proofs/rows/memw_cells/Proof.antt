@@ -5,7 +5,6 @@ use mathlib.Core.List.{List, [], _∷_, _++_}
 use Prim.Native.Nat.{ℕ, _%_, _^_}
 use lib.Dec.{eqb}
 use Rattle.words.specs.Words.{words}
-use Rattle.copy_row.specs.Columns.{at}
 use Rattle.copy_row.specs.Calls.{eightAt}
 use Rattle.copy_row.specs.Rows.{bit}
 use Rattle.copy_row.proofs.Ops.{numbersAt}
