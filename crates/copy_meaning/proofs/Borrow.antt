@@ -7,7 +7,7 @@ use native.Mathlib.Nat.{mod-add-mod, add-mod-mod}
 use native.Mathlib.Omega.{arith}
 use Rattle.field.specs.Field.{p, addP, subP, mulP}
 use Rattle.field.specs.Carries.{carryP, carryLow, carryHigh}
-use Rattle.field.specs.Constants.{inv16, inv32, inv48, inv64, negInv32, negInv64, negSevenInv64, eightInv64}
+use Rattle.field.specs.Constants.{inv16, inv32, inv48, inv64, negSevenInv64, eightInv64}
 use Rattle.field.proofs.Laws.{addP-mulP, mulP-assoc, mulP-comm, zero-mulP, neg-mulP}
 use Rattle.copy_row.specs.Columns.{at, COUNT, COUNT-DECR, SINGLE}
 use Rattle.copy_residues.specs.Residues.{halvesWord, step, decrLow, decrHigh, borrow}
@@ -28,9 +28,19 @@ spread : (d0 d1 d2 d3 c0 c1 s : ℕ)
     (mulP (p - c1) inv32)
 unfolding carryHigh carryLow carryP
 spread d0 d1 d2 d3 c0 c1 s =
-    simp
-    ( less, addP-mulP, mulP-assoc, square, collect 65536 d3 inv32 inv16 (unfold mulP in refl), collect 65536 d1 inv64 inv48 (unfold mulP in refl)
-    , collect (p - 7) s inv64 negSevenInv64 (unfold mulP in refl), zero-mulP, eight, mulP-comm d2 inv32, mulP-comm d0 inv64)
+    simp (
+      less,
+      addP-mulP,
+      mulP-assoc,
+      square,
+      collect 65536 d3 inv32 inv16 (unfold mulP in refl),
+      collect 65536 d1 inv64 inv48 (unfold mulP in refl),
+      collect (p - 7) s inv64 negSevenInv64 (unfold mulP in refl),
+      zero-mulP,
+      eight,
+      mulP-comm d2 inv32,
+      mulP-comm d0 inv64,
+    )
   where
     square : mulP inv32 inv32 ≡ inv64
     square = unfold mulP in refl

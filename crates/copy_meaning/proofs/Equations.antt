@@ -1,6 +1,6 @@
 -- The 40 residues of a row, each by the name of its constraint in copy.rs, and that all are 0 exactly if each named one is. Nothing after
 -- this counts residues. Assumes nothing.
-use mathlib.Core.Path.{_≡_, refl, sym, ap, _∙_}
+use mathlib.Core.Path.{_≡_, refl, sym, _∙_}
 use mathlib.Core.Bool.{Bool, true, false, cond}
 use mathlib.Core.List.{List, [], _∷_}
 use Prim.Native.Nat.{ℕ, zero, suc, _+_, _-_, _<_}

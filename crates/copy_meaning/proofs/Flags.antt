@@ -1,6 +1,6 @@
 -- The columns of a row that are made by tests, as functions of the bits SINGLE (s), IS_SET (a) and IS_WRITE (w): the kind is a + 2w, and
 -- at most one of the two is set. Assumes nothing.
-use mathlib.Core.Path.{_≡_, refl}
+use mathlib.Core.Path.{_≡_, refl, ap}
 use mathlib.Core.Bool.{Bool, true, false, cond, not, _&&_}
 use Prim.Native.Nat.{ℕ, zero, suc, _+_, _-_, _*_, _^_, _%_, _≤_, _<_}
 use native.Mathlib.Omega.{arith}
@@ -74,3 +74,8 @@ wide-test false zero h = refl
 wide-test true (suc zero) h = refl
 wide-test false (suc zero) h = refl
 wide-test t (suc (suc s)) h = absurd (omega arith)
+
+-- (m - b) w, of a kind w that only a live row has
+pub live-product : (m b w : ℕ) → m < 2 → w ≤ m → (m - b) * w ≡ (1 - b) * w
+live-product m b zero hm hw = omega arith
+live-product m b (suc w) hm hw = ap (λ x. (x - b) * suc w) (omega arith)

@@ -1,9 +1,9 @@
--- The row of a record with a good piece is in range, whatever its call, column group by column group: digits are below their base, whatever the width.
--- Assumes nothing.
-use mathlib.Core.Path.{_≡_, refl, sym, subst}
+-- The row of a record with a good piece is in range, whatever its call: digits are below their base, whatever the width, and flags are
+-- elements. Assumes nothing.
+use mathlib.Core.Path.{_≡_, sym, subst}
 use mathlib.Core.Bool.{Bool, true, false, cond, _&&_}
 use mathlib.Core.List.{List, [], _∷_, _++_}
-use Prim.Native.Nat.{ℕ, zero, suc, _/_, _^_, _≤_, _<_}
+use Prim.Native.Nat.{ℕ, zero, suc, _/_, _^_, _<_}
 use native.Mathlib.Nat.{mod-lt}
 use native.Mathlib.Omega.{arith}
 use lib.Dec.{eqb, lit<}
@@ -11,13 +11,12 @@ use lib.ListN.{length, getD, replicate}
 use lib.Pow.{pow-pos}
 use Rattle.field.specs.Field.{p}
 use Rattle.words.specs.Words.{digits}
-use Rattle.copy_row.specs.Columns.{at, COLUMNS}
 use Rattle.copy_row.specs.Calls.{Op, eightAt}
 use Rattle.copy_row.specs.Rows.{bit, wrapped, dstRes, muCom, rowOf}
 use Rattle.copy_residues.specs.Range.{columnLimits}
 use Rattle.copy_meaning.specs.Steps.{All, PieceOk}
 use Rattle.copy_meaning.specs.RowIff.{InRange}
-use Rattle.copy_meaning.proofs.ReadBack.{value-back}
+use Rattle.copy_meaning.proofs.ReadBack.{eight-back}
 
 -- each number is below the limit that stands in its place
 infixr 5 _&_
@@ -46,7 +45,7 @@ all-under m (x ∷ xs) a = a .0 & all-under m xs (a .1)
 
 bytes-under : (v : List ℕ) → length v ≡ 8 → All (λ (b : ℕ). b < 256) v → Under (eightAt v 0) (replicate 8 256)
 bytes-under v e a =
-    subst (λ (l : List ℕ). Under l (replicate 8 256)) (sym (value-back v e))
+    subst (λ (l : List ℕ). Under l (replicate 8 256)) (sym (eight-back v e))
     (subst (λ (n : ℕ). Under v (replicate n 256)) e (all-under 256 v a))
 
 bit-element : (t : Bool) → bit t < p

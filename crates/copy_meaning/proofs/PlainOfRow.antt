@@ -1,104 +1,26 @@
--- The row of a record that meets the conditions of its step says what Plain says: its columns are read back as the record's numbers, and
--- the conditions, live or dead, come to the same few inequalities. Assumes nothing.
-use mathlib.Core.Path.{_≡_, refl, sym, ap, _∙_, subst}
-use mathlib.Core.Bool.{Bool, cond, not, _&&_}
-use mathlib.Core.List.{List, [], _∷_}
-use mathlib.Core.Logic.{_⊎_, inl, inr}
-use Prim.Native.Nat.{ℕ, zero, suc, _+_, _-_, _*_, _%_, _^_, _≤_, _<_}
+-- The row of a record that meets the conditions of its step says what Plain says: its columns are read back as the record's numbers, of
+-- which the conditions speak. Assumes nothing.
+use mathlib.Core.Path.{_≡_, refl, sym, ap, _∙_}
+use mathlib.Core.Bool.{cond, not, _&&_}
+use mathlib.Core.List.{List}
+use Prim.Native.Nat.{ℕ, zero, suc, _+_, _-_, _*_, _^_, _≤_, _<_}
 use native.Mathlib.Omega.{arith}
 use lib.Dec.{eqb}
-use lib.ListN.{length, getD, take, drop, replicate, getD-replicate}
+use lib.ListN.{getD, take, drop, replicate, getD-replicate}
 use lib.Seq.{getD-take, getD-drop}
 use Rattle.words.specs.Words.{wrapAdd, wrapSub}
 use Rattle.words.proofs.Wrap.{sub-plain, sub-wrapped}
-use Rattle.copy_row.specs.Columns.{at, VALUE, SRC, SRC-INCR, DST, DST-INCR, COUNT, COUNT-DECR, DST-RES, FIRST, END, SINGLE, IS-SET, IS-WRITE, FIRST-WRITE, MU, MU-COM, MU-COM-WIDE}
-use Rattle.copy_row.specs.Calls.{Call, Piece, Op, eightAt}
-use Rattle.copy_row.specs.Rows.{bit, wrapped, dstRes, muCom, rowOf}
-use Rattle.copy_meaning.specs.Steps.{Words, PieceOk, Move, empty, ends, more, LiveStep, DeadStep, RowStep}
-use Rattle.copy_meaning.specs.ReadRow.{wordsAt, halvesAt, kindAt}
+use Rattle.copy_row.specs.Columns.{at, VALUE, SRC, DST, COUNT, FIRST, END, SINGLE, IS-SET, IS-WRITE, FIRST-WRITE, MU, MU-COM, MU-COM-WIDE}
+use Rattle.copy_row.specs.Calls.{Op}
+use Rattle.copy_row.specs.Rows.{bit, dstRes, muCom, rowOf}
+use Rattle.copy_meaning.specs.Steps.{RowStep}
+use Rattle.copy_meaning.specs.ReadRow.{wordsAt}
 use Rattle.copy_meaning.specs.RowIff.{InRange}
 use Rattle.copy_meaning.proofs.Flags.{bit-below-two, first-write-test, res-test, mu-com-test, wide-test}
 use Rattle.copy_meaning.proofs.Plain.{Plain, widthAt, emptyAt}
-use Rattle.copy_meaning.proofs.ReadBack.{value-back, src-back, dst-back, count-back, src-incr-back, dst-incr-back, count-decr-back, dst-res-back, kind-read, width-read}
+use Rattle.copy_meaning.proofs.ReadBack.{eight-back, src-back, dst-back, count-back, src-incr-back, dst-incr-back, count-decr-back, dst-res-back, kind-read, width-read}
+use Rattle.copy_meaning.proofs.StepFacts.{StepFacts, width-bounds, facts-of-step}
 use Rattle.copy_meaning.proofs.MadeRange.{made-range}
-
--- ---- both steps in one
-
-pub record Facts (gap mu : ℕ) (o : Op) : Type 0 where
-  pub words : Words (o .call)
-  pub piece : PieceOk (o .piece)
-  pub live : mu < 2
-  pub first : o .first ≤ mu
-  pub end : o .end ≤ mu
-  pub kind : o .call .kind ≤ 2 * mu
-  pub gapped : o .call .kind ≡ 1 → o .call .dst ≡ o .call .src + gap
-  pub src-free : o .call .src + o .piece .width + 2 ^ 64 * mu < 2 * 2 ^ 64 + 2 ^ 64 * (1 - o .call .count)
-  pub dst-free : o .call .dst + o .piece .width + 2 ^ 64 * mu < 2 * 2 ^ 64 + 2 ^ 64 * (1 - o .call .count)
-  pub enough : o .piece .width ≤ o .call .count + 2 ^ 64 * (1 - o .call .count)
-  pub empty-first : 1 - o .call .count ≤ o .first
-  pub empty-end : 1 - o .call .count ≤ o .end
-  pub last : o .call .count + 2 ^ 64 * o .end ≤ o .piece .width + 2 ^ 64
-
-width-bounds : (w : ℕ) → (w ≡ 1) ⊎ (w ≡ 8) → (0 < w) × (w ≤ 8)
-width-bounds w (inl e) = omega arith
-width-bounds w (inr e) = omega arith
-
-facts : (gap mu : ℕ) (o : Op) → RowStep gap mu o → Facts gap mu o
-facts gap zero o d =
-    let w = width-bounds (o .piece .width) (d .piece .wide) in
-    record {
-      words = d .words;
-      piece = d .piece;
-      live = omega arith;
-      first = omega (arith, d .first);
-      end = omega (arith, d .end);
-      kind = omega (arith, d .kind);
-      gapped = λ e. absurd (omega (arith, d .kind));
-      src-free = omega (arith, d .words .src);
-      dst-free = omega (arith, d .words .dst);
-      enough = omega (arith, d .enough);
-      empty-first = omega (arith, d .enough);
-      empty-end = omega (arith, d .enough);
-      last = omega (arith, d .end, d .words .count);
-    }
-facts gap (suc zero) o l = go (l .move)
-  where
-    made : (end : o .end ≤ 1)
-        → (src-free : o .call .src + o .piece .width + 2 ^ 64 * 1 < 2 * 2 ^ 64 + 2 ^ 64 * (1 - o .call .count))
-        → (dst-free : o .call .dst + o .piece .width + 2 ^ 64 * 1 < 2 * 2 ^ 64 + 2 ^ 64 * (1 - o .call .count))
-        → (enough : o .piece .width ≤ o .call .count + 2 ^ 64 * (1 - o .call .count))
-        → (empty-first : 1 - o .call .count ≤ o .first)
-        → (empty-end : 1 - o .call .count ≤ o .end)
-        → (last : o .call .count + 2 ^ 64 * o .end ≤ o .piece .width + 2 ^ 64)
-        → Facts gap 1 o
-    made end src-free dst-free enough empty-first empty-end last =
-        record {
-          words = l .words;
-          piece = l .piece;
-          live = omega arith;
-          first = l .bits;
-          end = end;
-          kind = l .words .kind;
-          gapped = l .gapped;
-          src-free = src-free;
-          dst-free = dst-free;
-          enough = enough;
-          empty-first = empty-first;
-          empty-end = empty-end;
-          last = last;
-        }
-
-    w : (0 < o .piece .width) × (o .piece .width ≤ 8)
-    w = width-bounds (o .piece .width) (l .piece .wide)
-
-    go : Move o → Facts gap 1 o
-    go (empty n f e) =
-        made (omega arith) (omega (arith, w, l .words .src)) (omega (arith, w, l .words .dst)) (omega (arith, w)) (omega arith) (omega arith) (omega (arith, w))
-    go (ends e n a b) =
-        made (omega arith) (omega (arith, w)) (omega (arith, w)) (omega arith) (omega (arith, w)) (omega (arith, w)) (omega arith)
-    go (more e n a b) =
-        made (omega arith) (omega (arith, w)) (omega (arith, w)) (omega arith) (omega (arith, w)) (omega (arith, w)) (omega (arith, l .words .count))
-facts gap (suc (suc mu)) o d = absurd d
 
 -- ---- on numbers
 
@@ -125,7 +47,7 @@ tail-at row e c low high =
     ∙ ap (λ l. getD l (c - 3) 0) e
     ∙ getD-replicate 7 (c - 3) 0 0 (omega arith)
 
-module _ (gap mu : ℕ) (o : Op) (f : Facts gap mu o) where
+module _ (gap mu : ℕ) (o : Op) (f : StepFacts gap mu o) where
   abbrev row : List ℕ
   row = rowOf mu o
 
@@ -169,7 +91,7 @@ module _ (gap mu : ℕ) (o : Op) (f : Facts gap mu o) where
 
   tail-is : o .piece .width ≡ 1 → take 7 (drop 3 row) ≡ replicate 7 0
   unfolding rowOf
-  tail-is e = ap (drop 1) (value-back (o .piece .value) (f .piece .eight)) ∙ f .piece .tail e
+  tail-is e = ap (drop 1) (eight-back (o .piece .value) (f .piece .eight)) ∙ f .piece .tail e
 
   -- ---- the numbers
 
@@ -246,9 +168,9 @@ module _ (gap mu : ℕ) (o : Op) (f : Facts gap mu o) where
       }
 
 pub plain-of-row : (gap mu : ℕ) (o : Op) → RowStep gap mu o → Plain gap (rowOf mu o)
-plain-of-row gap mu o d = plain-of-facts gap mu o (facts gap mu o d)
+plain-of-row gap mu o d = plain-of-facts gap mu o (facts-of-step gap mu o d)
 
 pub range-of-row : (gap mu : ℕ) (o : Op) → RowStep gap mu o → InRange (rowOf mu o)
 range-of-row gap mu o d =
-    let f = facts gap mu o d in
+    let f = facts-of-step gap mu o d in
     made-range mu o (f .piece) (omega (arith, f .live)) (omega (arith, f .first, f .live)) (omega (arith, f .end, f .live))

@@ -1,16 +1,15 @@
 -- A row in range whose equations hold says what Plain says. Bits and open gates come from p being prime, sums from the carry law, and the
 -- borrow is 1 exactly where the count is 0. Assumes nothing.
-use mathlib.Core.Path.{_≡_, refl, sym, ap, _∙_}
+use mathlib.Core.Path.{_≡_, refl, ap, _∙_}
 use mathlib.Core.List.{List}
 use Prim.Native.Nat.{ℕ, zero, suc, _+_, _-_, _*_, _%_, _^_, _≤_, _<_}
 use native.Mathlib.Nat.{mul-comm}
 use native.Mathlib.Omega.{arith}
 use lib.Dec.{lit<}
 use Rattle.field.specs.Field.{p, addP, subP, mulP, bitP}
-use Rattle.field.proofs.Laws.{add-below, sub-below, mul-below, bit-below, sub-zero, subP-small, mulP-comm, mulP-one}
+use Rattle.field.proofs.Laws.{add-below, sub-below, mul-below, bit-below, sub-zero, subP-small, mulP-comm}
 use Rattle.field.proofs.Bits.{bit-of-zero, gate, not-both, implies, bit-mulP, bit-complement}
-use Rattle.copy_row.specs.Columns.{at, VALUE, SRC, SRC-INCR, DST, DST-INCR, COUNT, COUNT-DECR, DST-RES, FIRST, END, SINGLE, IS-SET, IS-WRITE, FIRST-WRITE, MU, MU-COM, MU-COM-WIDE}
-use Rattle.copy_residues.specs.Range.{columnLimits}
+use Rattle.copy_row.specs.Columns.{at, VALUE, SRC, SRC-INCR, DST, DST-INCR, COUNT, COUNT-DECR, DST-RES, FIRST, END, SINGLE, IS-SET, IS-WRITE, FIRST-WRITE, MU, MU-COM, MU-COM-WIDE, COLUMNS}
 use Rattle.copy_residues.specs.Residues.{halvesWord, step, incrHigh, decrHigh, resLow, resHigh, gapLow, gapHigh, borrow, impliesMu, oneHot, firstWrite, gatedBit, dstResNonWrite, singleLane, borrowImplies, borrowImpliesZero, endImplies, muComIs, muComWideIs, noWrap, gapNoWrap}
 use Rattle.copy_meaning.specs.RowIff.{InRange}
 use Rattle.copy_meaning.specs.ReadRow.{wordsAt, halvesAt}
@@ -19,6 +18,7 @@ use Rattle.copy_meaning.proofs.Equations.{Equations}
 use Rattle.copy_meaning.proofs.Columns.{src-words, dst-words, count-words, src-halves, dst-halves, count-halves, res-halves, words-below, halves-below, words-of, step-width}
 use Rattle.copy_meaning.proofs.Borrow.{borrow-carry}
 use Rattle.copy_meaning.proofs.Sums.{Sum, incr-sum, decr-sum, res-sum, gap-sum}
+use Rattle.copy_meaning.proofs.Flags.{live-product}
 use Rattle.copy_meaning.proofs.Plain.{Plain, widthAt, emptyAt}
 
 -- ---- on numbers
@@ -44,34 +44,36 @@ unfolding mulP subP
 open-last e b h k = rw (h, k) (lit< tt)
 
 -- a Write ends count further, other rows at dst
-res-of : (d n r w k : ℕ) → w < 2 → d < 2 ^ 64 → r < 2 ^ 64 → (w ≡ 1 → d + n ≡ r + 2 ^ 64 * k) → (w ≡ 0 → r ≡ d) → r ≡ (d + n * w) % 2 ^ 64
+res-of : (d n r w k : ℕ) → w < 2 → d < 2 ^ 64 → r < 2 ^ 64 → (w ≡ 1 → d + n ≡ r + 2 ^ 64 * k) → (w ≡ 0 → r ≡ d)
+    → r ≡ (d + n * w) % 2 ^ 64
 res-of d n r zero k hw hd hr f g = omega (arith, g refl)
 res-of d n r (suc zero) k hw hd hr f g = omega (arith, f refl)
 res-of d n r (suc (suc w)) k hw hd hr f g = absurd (omega arith)
 
--- (m - b) w for a bit w at most m
-gated-bit : (m b w : ℕ) → m < 2 → w ≤ m → (m - b) * w ≡ (1 - b) * w
-gated-bit m b zero hm hw = omega arith
-gated-bit m b (suc w) hm hw = ap (λ x. (x - b) * suc w) (omega arith)
-
 module _ (gap : ℕ) (row : List ℕ) (g : gap < 2 ^ 32) (range : InRange row) (e : Equations gap row) where
+  element : (c : ℕ) → c < COLUMNS → at row c < p
+  element = range-elements row range
+
+  flag : (c : ℕ) → c < COLUMNS → bitP (at row c) ≡ 0 → at row c < 2
+  flag c h z = bit-of-zero (at row c) (element c h) z
+
   first : at row FIRST < 2
-  first = bit-of-zero (at row FIRST) (range-elements row range FIRST (lit< tt)) (e .first)
+  first = flag FIRST (lit< tt) (e .first)
 
   end : at row END < 2
-  end = bit-of-zero (at row END) (range-elements row range END (lit< tt)) (e .end)
+  end = flag END (lit< tt) (e .end)
 
   single : at row SINGLE < 2
-  single = bit-of-zero (at row SINGLE) (range-elements row range SINGLE (lit< tt)) (e .single)
+  single = flag SINGLE (lit< tt) (e .single)
 
   mu : at row MU < 2
-  mu = bit-of-zero (at row MU) (range-elements row range MU (lit< tt)) (e .mu)
+  mu = flag MU (lit< tt) (e .mu)
 
   is-set : at row IS-SET < 2
-  is-set = bit-of-zero (at row IS-SET) (range-elements row range IS-SET (lit< tt)) (e .is-set)
+  is-set = flag IS-SET (lit< tt) (e .is-set)
 
   is-write : at row IS-WRITE < 2
-  is-write = bit-of-zero (at row IS-WRITE) (range-elements row range IS-WRITE (lit< tt)) (e .is-write)
+  is-write = flag IS-WRITE (lit< tt) (e .is-write)
 
   marks : (at row FIRST ≤ at row MU) × (at row END ≤ at row MU)
   unfolding impliesMu
@@ -80,9 +82,11 @@ module _ (gap : ℕ) (row : List ℕ) (g : gap < 2 ^ 32) (range : InRange row) (
   kinds : at row IS-SET + at row IS-WRITE ≤ at row MU
   unfolding impliesMu oneHot
   kinds =
-      omega
-      ( arith, not-both (at row IS-SET) (at row IS-WRITE) is-set is-write (e .one-hot)
-      , both-le (at row IS-SET) (at row IS-WRITE) (at row MU) is-set is-write mu (e .kinds-live))
+      omega (
+        arith,
+        not-both (at row IS-SET) (at row IS-WRITE) is-set is-write (e .one-hot),
+        both-le (at row IS-SET) (at row IS-WRITE) (at row MU) is-set is-write mu (e .kinds-live),
+      )
 
   src : Sum (wordsAt row SRC) (widthAt row) (halvesAt row SRC-INCR) (incrHigh row SRC)
   src = incr-sum row SRC (src-words row range) (src-halves row range) single (e .src-low) (e .src-high)
@@ -98,7 +102,7 @@ module _ (gap : ℕ) (row : List ℕ) (g : gap < 2 ^ 32) (range : InRange row) (
 
   -- the borrow
   is-carry : borrow row ≡ decrHigh row
-  is-carry = borrow-carry row (range-elements row range COUNT (lit< tt)) (range-elements row range (COUNT + 1) (lit< tt))
+  is-carry = borrow-carry row (element COUNT (lit< tt)) (element (COUNT + 1) (lit< tt))
 
   count : Sum (halvesAt row COUNT-DECR) (widthAt row) (wordsAt row COUNT) (borrow row)
   count = rw is-carry (decr-sum row (count-words row range) (count-halves row range) single (e .count-low) (e .count-high))
@@ -107,9 +111,11 @@ module _ (gap : ℕ) (row : List ℕ) (g : gap < 2 ^ 32) (range : InRange row) (
   unfolding borrowImpliesZero
   borrow-zero l =
       let w = count-words row range in
-      omega
-      ( arith, gate (borrow row) (at row COUNT) (omega (arith, count .bit)) (omega arith) l (e .zero-low)
-      , gate (borrow row) (at row (COUNT + 1)) (omega (arith, count .bit)) (omega arith) l (e .zero-high))
+      omega (
+        arith,
+        gate (borrow row) (at row COUNT) (omega (arith, count .bit)) (omega arith) l (e .zero-low),
+        gate (borrow row) (at row (COUNT + 1)) (omega (arith, count .bit)) (omega arith) l (e .zero-high),
+      )
 
   empty : borrow row ≡ emptyAt row
   empty =
@@ -131,10 +137,12 @@ module _ (gap : ℕ) (row : List ℕ) (g : gap < 2 ^ 32) (range : InRange row) (
       let w = count-words row range in
       let s = step-width row single in
       let l = open-last (at row END) (borrow row) h k in
-      omega
-      ( arith, gate (mulP (at row END) (subP 1 (borrow row))) (at row (COUNT + 1)) (mul-below _ _) (omega arith) l (e .last-high)
-      , sub-zero (at row COUNT) (step row) (omega arith) (omega arith)
-        (gate (mulP (at row END) (subP 1 (borrow row))) (subP (at row COUNT) (step row)) (mul-below _ _) (sub-below _ _) l (e .last-low)))
+      omega (
+        arith,
+        gate (mulP (at row END) (subP 1 (borrow row))) (at row (COUNT + 1)) (mul-below _ _) (omega arith) l (e .last-high),
+        sub-zero (at row COUNT) (step row) (omega arith) (omega arith)
+            (gate (mulP (at row END) (subP 1 (borrow row))) (subP (at row COUNT) (step row)) (mul-below _ _) (sub-below _ _) l (e .last-low)),
+      )
 
   last : wordsAt row COUNT + 2 ^ 64 * at row END ≤ widthAt row + 2 ^ 64
   last = go (at row END) refl (borrow row) refl
@@ -156,13 +164,17 @@ module _ (gap : ℕ) (row : List ℕ) (g : gap < 2 ^ 32) (range : InRange row) (
   unfolding noWrap
   dst-free = not-both (subP (at row MU) (borrow row)) (incrHigh row DST) (omega (arith, moving, mu)) (dst .bit) (e .dst-free)
 
+  -- a carry behind an open gate
+  behind : (c x : ℕ) → at row c ≡ 1 → gatedBit row c x ≡ 0 → bitP x ≡ 0
+  unfolding gatedBit
+  behind c x h z = gate (at row c) (bitP x) (omega arith) (bit-below x) (omega arith) z
+
   -- DST_RES
   res-write : at row IS-WRITE ≡ 1 → wordsAt row DST + wordsAt row COUNT ≡ halvesAt row DST-RES + 2 ^ 64 * resHigh row
-  unfolding gatedBit
   res-write h =
       res-sum row (dst-words row range) (count-words row range) (res-halves row range)
-      (gate (at row IS-WRITE) (bitP (resLow row)) (omega arith) (bit-below _) (omega arith) (e .res-low))
-      (gate (at row IS-WRITE) (bitP (resHigh row)) (omega arith) (bit-below _) (omega arith) (e .res-high))
+      (behind IS-WRITE (resLow row) h (e .res-low))
+      (behind IS-WRITE (resHigh row) h (e .res-high))
       .total
 
   res-other : at row IS-WRITE ≡ 0 → halvesAt row DST-RES ≡ wordsAt row DST
@@ -171,51 +183,54 @@ module _ (gap : ℕ) (row : List ℕ) (g : gap < 2 ^ 32) (range : InRange row) (
       let t = words-of row DST-RES (res-halves row range) in
       let w = dst-words row range in
       let l = bit-complement (at row IS-WRITE) is-write in
-      omega
-      ( arith
-      , sub-zero (halvesWord row DST-RES) (at row DST) (omega arith) (omega arith)
-        (gate (subP 1 (at row IS-WRITE)) (subP (halvesWord row DST-RES) (at row DST)) (sub-below _ _) (sub-below _ _) (omega arith) (e .same-low))
-      , sub-zero (halvesWord row (DST-RES + 2)) (at row (DST + 1)) (omega arith) (omega arith)
-        (gate (subP 1 (at row IS-WRITE)) (subP (halvesWord row (DST-RES + 2)) (at row (DST + 1))) (sub-below _ _) (sub-below _ _) (omega arith)
-          (e .same-high)))
+      let same : (x y : ℕ) → x < 2 ^ 32 → y < 2 ^ 32 → mulP (subP 1 (at row IS-WRITE)) (subP x y) ≡ 0 → x ≡ y =
+      λ x y hx hy z. sub-zero x y (omega arith) (omega arith) (gate (subP 1 (at row IS-WRITE)) (subP x y) (sub-below _ _) (sub-below _ _) (omega arith) z) in
+      omega (
+        arith,
+        same (halvesWord row DST-RES) (at row DST) (t .low) (w .low) (e .same-low),
+        same (halvesWord row (DST-RES + 2)) (at row (DST + 1)) (t .high) (w .high) (e .same-high),
+      )
 
   -- a Set
   gapped : at row IS-SET ≡ 1 → wordsAt row DST ≡ wordsAt row SRC + gap
-  unfolding gatedBit gapNoWrap
+  unfolding gapNoWrap
   gapped h =
       let sum = gap-sum gap row g (src-words row range) (dst-words row range)
-          (gate (at row IS-SET) (bitP (gapLow gap row)) (omega arith) (bit-below _) (omega arith) (e .gap-low))
-          (gate (at row IS-SET) (bitP (gapHigh gap row)) (omega arith) (bit-below _) (omega arith) (e .gap-high)) in
+      (behind IS-SET (gapLow gap row) h (e .gap-low))
+      (behind IS-SET (gapHigh gap row) h (e .gap-high)) in
       omega (arith, gate (at row IS-SET) (gapHigh gap row) (omega arith) (omega (arith, sum .bit)) (omega arith) (e .gap-free))
 
   tail : at row SINGLE ≡ 1 → (c : ℕ) → VALUE < c → c < SRC → at row c ≡ 0
   unfolding singleLane
   tail h c low high =
-      gate (at row SINGLE) (at row c) (omega arith) (range-elements row range c (omega arith)) (omega arith) (e .tail c low high)
+      gate (at row SINGLE) (at row c) (omega arith) (element c (omega arith)) (omega arith) (e .tail c low high)
 
-  -- products with a bit
+  -- columns that are products with a bit
+  product : (c : ℕ) → c < COLUMNS → (x y : ℕ) → subP (at row c) (mulP x y) ≡ 0 → at row c ≡ mulP x y
+  product c h x y z = sub-zero (at row c) (mulP x y) (element c h) (mul-below x y) z
+
   first-write : at row FIRST-WRITE ≡ at row FIRST * at row IS-WRITE
   unfolding firstWrite
   first-write =
-      sub-zero (at row FIRST-WRITE) (mulP (at row FIRST) (at row IS-WRITE)) (range-elements row range FIRST-WRITE (lit< tt)) (mul-below _ _) (e .first-write)
+      product FIRST-WRITE (lit< tt) (at row FIRST) (at row IS-WRITE) (e .first-write)
       ∙ bit-mulP (at row FIRST) (at row IS-WRITE) first (omega (arith, is-write))
 
   mu-com : at row MU-COM ≡ (1 - emptyAt row) * at row IS-WRITE
   unfolding muComIs
   mu-com =
-      sub-zero (at row MU-COM) (mulP (subP (at row MU) (borrow row)) (at row IS-WRITE)) (range-elements row range MU-COM (lit< tt)) (mul-below _ _) (e .mu-com)
+      product MU-COM (lit< tt) (subP (at row MU) (borrow row)) (at row IS-WRITE) (e .mu-com)
       ∙ bit-mulP (subP (at row MU) (borrow row)) (at row IS-WRITE) (omega (arith, moving, mu)) (omega (arith, is-write))
       ∙ ap (λ x. x * at row IS-WRITE) moving
-      ∙ gated-bit (at row MU) (borrow row) (at row IS-WRITE) mu (omega (arith, kinds))
+      ∙ live-product (at row MU) (borrow row) (at row IS-WRITE) mu (omega (arith, kinds))
       ∙ ap (λ x. (1 - x) * at row IS-WRITE) empty
 
   mu-com-wide : at row MU-COM-WIDE ≡ at row MU-COM * (1 - at row SINGLE)
   unfolding muComWideIs
   mu-com-wide =
       let wide : subP 1 (at row SINGLE) ≡ 1 - at row SINGLE = omega (arith, bit-complement (at row SINGLE) single) in
-      sub-zero (at row MU-COM-WIDE) (mulP (at row MU-COM) (subP 1 (at row SINGLE))) (range-elements row range MU-COM-WIDE (lit< tt)) (mul-below _ _) (e .mu-com-wide)
+      product MU-COM-WIDE (lit< tt) (at row MU-COM) (subP 1 (at row SINGLE)) (e .mu-com-wide)
       ∙ mulP-comm (at row MU-COM) (subP 1 (at row SINGLE))
-      ∙ bit-mulP (subP 1 (at row SINGLE)) (at row MU-COM) (omega arith) (range-elements row range MU-COM (lit< tt))
+      ∙ bit-mulP (subP 1 (at row SINGLE)) (at row MU-COM) (omega arith) (element MU-COM (lit< tt))
       ∙ ap (λ x. x * at row MU-COM) wide
       ∙ mul-comm (1 - at row SINGLE) (at row MU-COM)
 

@@ -1,21 +1,20 @@
 -- What is read off the row of a record is that record, and what the row hands on is what the record's wrapped sums say. So a row tells
 -- its record, and no other record has it. Assumes nothing.
-use mathlib.Core.Path.{_≡_, refl, sym, ap, _∙_, subst}
-use mathlib.Core.List.{List, [], _∷_}
+use mathlib.Core.Path.{_≡_, refl, sym}
+use mathlib.Core.List.{List}
 use mathlib.Core.Logic.{_⊎_, inl, inr}
 use Prim.Native.Nat.{ℕ, zero, suc, _+_, _-_, _*_, _^_, _≤_, _<_}
 use native.Mathlib.Omega.{arith}
 use lib.Dec.{eqb}
 use lib.ListN.{length}
-use Rattle.words.specs.Words.{halves}
 use Rattle.words.proofs.Wrap.{from-words}
 use Rattle.words.proofs.Digits.{halves-whole}
-use Rattle.copy_row.specs.Columns.{at, TIMESTAMP, VALUE, SRC, SRC-INCR, DST, DST-INCR, COUNT, COUNT-DECR, DST-RES}
-use Rattle.copy_row.specs.Calls.{Call, Piece, Op, eightAt}
+use Rattle.copy_row.specs.Columns.{TIMESTAMP, VALUE, SRC, SRC-INCR, DST, DST-INCR, COUNT, COUNT-DECR, DST-RES}
+use Rattle.copy_row.specs.Calls.{Op, eightAt}
 use Rattle.copy_row.specs.Rows.{bit, wrapped, dstRes, rowOf}
 use Rattle.copy_meaning.specs.Steps.{Words, PieceOk}
 use Rattle.copy_meaning.specs.ReadRow.{wordsAt, halvesAt, kindAt, callAt, opAt, nextAt}
-use Rattle.copy_meaning.proofs.RowOfPlain.{upTo, up-to}
+use Rattle.copy_meaning.proofs.Columns.{columns-of}
 use Rattle.copy_meaning.proofs.Plain.{widthAt}
 
 -- four halves in the form in which they are read
@@ -32,8 +31,8 @@ width-back : (w : ℕ) → (w ≡ 1) ⊎ (w ≡ 8) → 8 - 7 * bit (eqb w 1) ≡
 width-back w (inl e) = rw e
 width-back w (inr e) = rw e
 
-pub value-back : (v : List ℕ) → length v ≡ 8 → eightAt v 0 ≡ v
-value-back v e = sym (subst (λ (n : ℕ). v ≡ upTo n (at v)) e (up-to v))
+pub eight-back : (v : List ℕ) → length v ≡ 8 → eightAt v 0 ≡ v
+eight-back v e = sym (columns-of v 8 e)
 
 module _ (mu : ℕ) (o : Op) where
   -- columns of words and of halves
@@ -75,14 +74,14 @@ module _ (mu : ℕ) (o : Op) where
     kind-read = kind-back (o .call .kind) (fits .kind)
 
     -- the call that the row goes on with
-    pub next-read : nextAt (rowOf mu o) ≡ wrapped o
-    next-read =
+    pub next-back : nextAt (rowOf mu o) ≡ wrapped o
+    next-back =
         let stamp = stamp-back (fits .stamp) in
         λ i.
         record { kind = kind-read i; stamp = stamp i; src = src-incr-back i; dst = dst-incr-back i; count = count-decr-back i }
 
-    pub call-read : callAt (rowOf mu o) ≡ o .call
-    call-read =
+    pub call-back : callAt (rowOf mu o) ≡ o .call
+    call-back =
         let stamp = stamp-back (fits .stamp) in
         let src = src-back (fits .src) in
         let dst = dst-back (fits .dst) in
@@ -97,8 +96,8 @@ module _ (mu : ℕ) (o : Op) where
 
       pub value-read : eightAt (rowOf mu o) VALUE ≡ o .piece .value
       unfolding rowOf
-      value-read = value-back (o .piece .value) (ok .eight)
+      value-read = eight-back (o .piece .value) (ok .eight)
 
-      pub op-read : opAt (rowOf mu o) ≡ o
+      pub op-back : opAt (rowOf mu o) ≡ o
       unfolding rowOf
-      op-read = λ i. record { call = call-read i; piece = record { width = width-read i; value = value-read i }; first = o .first; end = o .end }
+      op-back = λ i. record { call = call-back i; piece = record { width = width-read i; value = value-read i }; first = o .first; end = o .end }

@@ -1,38 +1,26 @@
 -- A row in range that says what Plain says is the row of the record read off it, and that record meets the conditions of its step, live
 -- or dead. Column by column: words and halves of a number come back from it, and each flag is its test. Assumes nothing.
-use mathlib.Core.Path.{_≡_, refl, sym, ap, _∙_, subst}
+use mathlib.Core.Path.{_≡_, refl, ap, _∙_}
 use mathlib.Core.Bool.{_&&_}
 use mathlib.Core.List.{List, [], _∷_, _++_}
 use mathlib.Core.Logic.{_⊎_, inl, inr}
-use Prim.Native.Nat.{ℕ, zero, suc, _+_, _-_, _*_, _%_, _^_, _≤_, _<_}
+use Prim.Native.Nat.{ℕ, zero, suc, _+_, _-_, _*_, _%_, _^_, _<_}
 use native.Mathlib.Omega.{arith}
 use lib.Dec.{lit<, eqb}
-use lib.ListN.{length, getD}
+use lib.ListN.{length}
 use Rattle.words.specs.Words.{words, halves, wrapSub}
 use Rattle.words.proofs.Limbs.{two-of, four-of}
 use Rattle.words.proofs.Digits.{words-two, halves-four}
-use Rattle.copy_row.specs.Columns.{at, TIMESTAMP, VALUE, SRC, SRC-INCR, DST, DST-INCR, COUNT, COUNT-DECR, DST-RES, FIRST, END, SINGLE, IS-SET, IS-WRITE, FIRST-WRITE, MU, MU-COM, MU-COM-WIDE, COLUMNS}
-use Rattle.copy_row.specs.Calls.{Call, Piece, Op, eightAt}
-use Rattle.copy_row.specs.Rows.{bit, wrapped, dstRes, muCom, rowOf}
-use Rattle.copy_residues.specs.Range.{columnLimits}
-use Rattle.copy_meaning.specs.Steps.{Words, PieceOk, Move, empty, ends, more, LiveStep, DeadStep, RowStep}
-use Rattle.copy_meaning.specs.ReadRow.{wordsAt, halvesAt, kindAt, callAt, opAt}
+use Rattle.copy_row.specs.Columns.{at, TIMESTAMP, VALUE, SRC, SRC-INCR, DST, DST-INCR, COUNT, COUNT-DECR, DST-RES, FIRST, END, SINGLE, IS-SET, IS-WRITE, MU, MU-COM, MU-COM-WIDE, COLUMNS}
+use Rattle.copy_row.specs.Calls.{eightAt}
+use Rattle.copy_row.specs.Rows.{bit, dstRes, muCom, rowOf}
+use Rattle.copy_meaning.specs.Steps.{Words, PieceOk, RowStep}
+use Rattle.copy_meaning.specs.ReadRow.{wordsAt, halvesAt, callAt, opAt}
 use Rattle.copy_meaning.specs.RowIff.{InRange}
-use Rattle.copy_meaning.proofs.Columns.{TwoWords, FourHalves, stamp-words, src-words, dst-words, count-words, src-halves, dst-halves, count-halves, res-halves, words-below, halves-below}
+use Rattle.copy_meaning.proofs.Columns.{TwoWords, FourHalves, columns-of, stamp-words, src-words, dst-words, count-words, src-halves, dst-halves, count-halves, res-halves, value-bytes, words-below, halves-below}
 use Rattle.copy_meaning.proofs.Flags.{single-test, set-test, write-test, first-write-test, res-test, mu-com-test, wide-test}
+use Rattle.copy_meaning.proofs.StepFacts.{StepFacts, step-of-facts}
 use Rattle.copy_meaning.proofs.Plain.{Plain, widthAt, emptyAt}
-
--- a list is its numbers one by one
-abbrev pub upTo : ℕ → (ℕ → ℕ) → List ℕ
-upTo zero v = []
-upTo (suc n) v = v 0 ∷ upTo n (λ c. v (suc c))
-
-pub up-to : (row : List ℕ) → row ≡ upTo (length row) (at row)
-up-to [] = refl
-up-to (x ∷ xs) = ap (λ t. x ∷ t) (up-to xs)
-
-pub columns-of : (row : List ℕ) → length row ≡ COLUMNS → row ≡ upTo COLUMNS (at row)
-columns-of row wide = subst (λ (n : ℕ). row ≡ upTo n (at row)) wide (up-to row)
 
 -- the columns of a number are its words, its halves
 word-columns : (row : List ℕ) (c : ℕ) → TwoWords row c → at row c ∷ at row (c + 1) ∷ [] ≡ words (wordsAt row c)
@@ -91,7 +79,7 @@ module _ (gap : ℕ) (row : List ℕ) (wide : length row ≡ COLUMNS) (range : I
       let set = set-test (at row IS-SET) (at row IS-WRITE) one in
       let write = write-test (at row IS-SET) (at row IS-WRITE) one in
       let first-write = q .first-write ∙ first-write-test (at row IS-SET) (at row IS-WRITE) one (at row FIRST) in
-      columns-of row wide
+      columns-of row COLUMNS wide
       ∙ (λ i.
       stamp i
       ++ eightAt row VALUE
@@ -126,62 +114,42 @@ module _ (gap : ℕ) (row : List ℕ) (wide : length row ≡ COLUMNS) (range : I
       }
 
   piece : PieceOk (opAt row .piece)
-  unfolding columnLimits
   piece =
       record {
         wide = width-cases (at row SINGLE) (q .single);
         eight = refl;
-        bytes =
-            ( range 2 (lit< tt)
-            , ( range 3 (lit< tt)
-              , ( range 4 (lit< tt)
-                , (range 5 (lit< tt), (range 6 (lit< tt), (range 7 (lit< tt), (range 8 (lit< tt), (range 9 (lit< tt), tt))))))));
+        bytes = value-bytes row range;
         tail =
             λ e.
-            let z = q .tail (omega arith) in
+            let zero : (k : ℕ) → 0 < k → k < 8 → at row (VALUE + k) ≡ 0 = λ k l h. q .tail (omega arith) (VALUE + k) (omega arith) (omega arith) in
             λ i.
-            z 3 (lit< tt) (lit< tt) i
-            ∷ z 4 (lit< tt) (lit< tt) i
-            ∷ z 5 (lit< tt) (lit< tt) i
-            ∷ z 6 (lit< tt) (lit< tt) i
-            ∷ z 7 (lit< tt) (lit< tt) i
-            ∷ z 8 (lit< tt) (lit< tt) i
-            ∷ z 9 (lit< tt) (lit< tt) i
+            zero 1 (lit< tt) (lit< tt) i
+            ∷ zero 2 (lit< tt) (lit< tt) i
+            ∷ zero 3 (lit< tt) (lit< tt) i
+            ∷ zero 4 (lit< tt) (lit< tt) i
+            ∷ zero 5 (lit< tt) (lit< tt) i
+            ∷ zero 6 (lit< tt) (lit< tt) i
+            ∷ zero 7 (lit< tt) (lit< tt) i
             ∷ [];
       }
 
-  -- a row that is not empty has enough left
-  enough : emptyAt row ≡ 0 → widthAt row ≤ wordsAt row COUNT
-  enough e = omega (arith, q .count)
-
-  move : at row MU ≡ 1 → Move (opAt row)
-  move live = go (emptyAt row) refl (at row END) refl
-    where
-      go : (b : ℕ) → emptyAt row ≡ b → (x : ℕ) → at row END ≡ x → Move (opAt row)
-      go zero e zero f = more f (enough e) (omega (arith, q .src-free)) (omega (arith, q .dst-free))
-      go zero e (suc x) f =
-          ends (omega (arith, q .end)) (omega (arith, q .last, q .end, enough e)) (omega (arith, q .src-free)) (omega (arith, q .dst-free))
-      go (suc b) e x f = empty (omega arith) (omega (arith, q .empty-first, q .first)) (omega (arith, q .empty-end, q .end))
-
-  step : (m : ℕ) → at row MU ≡ m → RowStep gap m (opAt row)
-  step zero e =
+  facts : StepFacts gap (at row MU) (opAt row)
+  facts =
       record {
         words = fitting;
         piece = piece;
+        live = q .mu;
+        first = q .first;
+        end = q .end;
         kind = omega (arith, q .kinds);
-        first = omega (arith, q .first);
-        end = omega (arith, q .end);
-        enough = enough (omega (arith, q .empty-first, q .first));
+        gapped = λ e. q .gapped (omega (arith, one));
+        src-free = q .src-free;
+        dst-free = q .dst-free;
+        enough = omega (arith, q .count);
+        empty-first = q .empty-first;
+        empty-end = q .empty-end;
+        last = q .last;
       }
-  step (suc zero) e =
-      record {
-        words = fitting;
-        gapped = λ k. q .gapped (omega (arith, one));
-        piece = piece;
-        bits = omega (arith, q .first);
-        move = move e;
-      }
-  step (suc (suc m)) e = absurd (omega (arith, q .mu))
 
   pub row-step : RowStep gap (at row MU) (opAt row)
-  row-step = step (at row MU) refl
+  row-step = step-of-facts gap (at row MU) (opAt row) facts

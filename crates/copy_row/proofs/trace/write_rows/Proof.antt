@@ -8,8 +8,7 @@ use borrow.Author.Needs.{needs}
 use denote.Ref.{now}
 use lib.ListN.{length, length-take, length-drop}
 use Rattle.records.specs.declared.TableAnswer.the-variants.{Made}
-use Rattle.records.proofs.Records.{record-length}
-use Rattle.copy_row.specs.Trace.{OP-WIDTH, copyRow, copyAfter}
+use Rattle.copy_row.specs.Trace.{copyRow, copyAfter}
 use Rattle.copy_row.proofs.CopyTable.{no-rows, next-row, after-length, row-of-record, row-of-none}
 use Rattle.copy_row.proofs.trace.write_rows.Statement.{statement}
 use Rattle.copy_row.proofs.trace.write_rows.Tie as tie
@@ -27,11 +26,10 @@ loop-holds c =
     (omega arith, refl, sym (no-rows (now (start .args .ops)) (now (start .args .table))))
 
 write-row-requires : tie.Need-write-row-requires Inv-loop μ-loop
-write-row-requires c κs =
-    let at = c .before .before .before .before in
-    let ops = now (at .before .before .before .before .args .ops) in
-    let whole = record-length OP-WIDTH ops (at .loop .k) (omega arith) in
-    (simp (length-take, length-drop) (omega arith), ap length (c .record-at .ensures) ∙ whole)
+write-row-requires c κs = (
+  simp (length-take, length-drop) (omega arith),
+  rw (c .record-at .ensures) (simp (length-take, length-drop) (omega arith)),
+)
 
 loop-again : tie.Need-loop-again Inv-loop μ-loop
 loop-again c =
