@@ -1,10 +1,16 @@
 //! The harness: the published Rust and document 01 as an oracle (README.md).
 
+mod bench;
+mod compare;
+mod exported;
+mod functions;
 mod generate;
 mod oracle;
 mod protocol;
+mod replay;
 mod rng;
 mod selftest;
+mod side;
 mod sound;
 
 use protocol::Question;
@@ -16,7 +22,10 @@ const USAGE: &str = "\
 harness ask                           answer questions, a line each
 harness vectors KIND SEED COUNT FILE  write questions and answers
 harness selftest SEED COUNT           hold the oracle against itself
-harness callcheck                     document 01's program, by the oracle";
+harness callcheck                     document 01's program, by the oracle
+harness compare SEED SECONDS [KIND..] hold the proved code against the oracle
+harness bench [KIND..]                time ratios of the proved code to Rust
+harness replay DIR SEED               write the files of the replay programs in DIR";
 
 fn main() -> ExitCode {
     let arguments: Vec<String> = std::env::args().skip(1).collect();
@@ -26,6 +35,9 @@ fn main() -> ExitCode {
         ["vectors", kind, seed, count, file] => vectors(kind, seed, count, file),
         ["selftest", seed, count] => run_selftest(seed, count),
         ["callcheck"] => callcheck(),
+        ["bench", ref kinds @ ..] => bench::run(kinds),
+        ["replay", crates, seed] => replay(crates, seed),
+        ["compare", seed, seconds, ref kinds @ ..] => compare(seed, seconds, kinds),
         _ => Err(USAGE.into()),
     };
     match done {
@@ -88,6 +100,14 @@ fn run_selftest(seed: &str, count: &str) -> Result<(), String> {
     } else {
         Err(format!("{failures} failures"))
     }
+}
+
+fn compare(seed: &str, seconds: &str, kinds: &[&str]) -> Result<(), String> {
+    compare::run(number(seed)?, number(seconds)?, kinds)
+}
+
+fn replay(crates: &str, seed: &str) -> Result<(), String> {
+    replay::run(crates, number(seed)?)
 }
 
 fn callcheck() -> Result<(), String> {

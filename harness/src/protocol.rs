@@ -1,61 +1,10 @@
 //! The text protocol: a question on a line, the answer on a line (README.md).
 
+use crate::functions::Parameter::{self, Bytes, Lent, LentArray, LentBytes, Number, Slice, Word};
 use crate::oracle::{self, Answer};
-use Parameter::{Bytes, Lent, LentArray, LentBytes, Number, Slice, Word};
+use crate::side;
 
-/// What a parameter of an exported function is.
-#[derive(Debug, Clone, Copy, PartialEq, Eq)]
-pub enum Parameter {
-    Number,
-    /// A number of 32 bits.
-    Word,
-    Slice,
-    /// A slice of bytes.
-    Bytes,
-    /// A lent slice of any length.
-    Lent,
-    /// A lent slice of bytes.
-    LentBytes,
-    /// A lent array of this length.
-    LentArray(usize),
-}
-
-impl Parameter {
-    /// Whether the function can write it.
-    pub fn is_lent(self) -> bool {
-        matches!(self, Lent | LentBytes | LentArray(_))
-    }
-}
-
-/// Every exported function and its parameters, in order; and last the program
-/// `callcheck`, whose input and output are bytes.
-#[rustfmt::skip]
-pub const FUNCTIONS: &[(&str, &[Parameter])] = &[
-    ("field_add", &[Number, Number]),
-    ("field_sub", &[Number, Number]),
-    ("field_mul", &[Number, Number]),
-    ("copy_residue", &[Number, Slice, Number]),
-    ("memw_residue", &[Slice, Number]),
-    ("memw_aligned_residue", &[Slice, Number]),
-    ("memw_register_residue", &[Slice, Number]),
-    ("add_pair", &[Slice, Slice, Slice, Slice, Slice, LentArray(3)]),
-    ("generate_copy_trace", &[Slice, Lent]),
-    ("generate_memw_trace", &[Slice, Lent]),
-    ("generate_memw_aligned_trace", &[Slice, Lent]),
-    ("generate_memw_register_trace", &[Slice, Lent]),
-    ("route_accesses", &[Slice, Lent, Lent, Lent, LentArray(3)]),
-    ("push_reg_access",
-        &[Number, Word, Word, Word, Word, Number, Number, Number, LentArray(29)]),
-    ("new_register_state", &[Number, Number, LentArray(68)]),
-    ("collect_copy_register_ops",
-        &[Number, Number, Number, Number, Number, LentArray(68), LentArray(116)]),
-    ("collect_copy_ops",
-        &[Number, Number, Number, Number, Number, Number, LentBytes, Lent, Lent, Lent,
-          LentArray(2)]),
-    ("chain_check", &[Number, Slice]),
-    ("read_back", &[Number, Slice, Lent, Lent, LentArray(2)]),
-    ("callcheck", &[Bytes]),
-];
+pub use crate::functions::FUNCTIONS;
 
 #[derive(Debug, Clone, PartialEq, Eq)]
 pub enum Argument {
@@ -158,31 +107,25 @@ impl Question {
 
     /// The oracle's reply.
     pub fn reply(&self) -> Reply {
-        let Arguments {
-            numbers: n,
-            slices: s,
-            mut lent,
-        } = Arguments::of(self);
-        let answer = match self.name() {
-            "field_add" => oracle::field_add(n[0], n[1]),
-            "field_sub" => oracle::field_sub(n[0], n[1]),
-            "field_mul" => oracle::field_mul(n[0], n[1]),
-            "copy_residue" => oracle::copy_residue(n[0], &s[0], n[1]),
-            "memw_residue" => oracle::memw_residue(&s[0], n[0]),
-            "memw_aligned_residue" => oracle::memw_aligned_residue(&s[0], n[0]),
-            "memw_register_residue" => oracle::memw_register_residue(&s[0], n[0]),
-            "add_pair" => oracle::add_pair(&s[0], &s[1], &s[2], &s[3], &s[4], array(&mut lent[0])),
-            "chain_check" => oracle::chain_check(n[0], &s[0]),
-            "new_register_state" => oracle::new_register_state(n[0], n[1], array(&mut lent[0])),
-            name if name.starts_with("generate_") => reply_table(name, &s[0], &mut lent[0]),
-            "callcheck" => return reply_program(&s[0]),
-            name => reply_lent(name, &n, &s, &mut lent),
-        };
-        Reply { answer, lent }
+        match (self.name(), &self.arguments[..]) {
+            ("callcheck", [Argument::List(input)]) => reply_program(input),
+            _ => side::ORACLE.reply(self),
+        }
     }
 }
 
 impl Reply {
+    /// A program's output, as if lent; the value is its length.
+    pub fn of_output(output: &[u8]) -> Self {
+        let answer = Answer {
+            number: 0,
+            place: 0,
+            value: output.len() as u64,
+        };
+        let lent = vec![output.iter().copied().map(u64::from).collect()];
+        Self { answer, lent }
+    }
+
     pub fn line(&self) -> String {
         let Answer {
             number,
@@ -234,107 +177,8 @@ fn push_list(line: &mut String, list: &[u64]) {
         .for_each(|number| *line += &format!(" {number}"));
 }
 
-/// The arguments of a question, parted by use.
-struct Arguments {
-    numbers: Vec<u64>,
-    slices: Vec<Vec<u64>>,
-    lent: Vec<Vec<u64>>,
-}
-
-impl Arguments {
-    fn of(question: &Question) -> Self {
-        let mut parted = Self {
-            numbers: vec![],
-            slices: vec![],
-            lent: vec![],
-        };
-        for (parameter, argument) in question.parameters().iter().zip(&question.arguments) {
-            match argument {
-                Argument::Number(number) => parted.numbers.push(*number),
-                Argument::List(list) if parameter.is_lent() => parted.lent.push(list.clone()),
-                Argument::List(list) => parted.slices.push(list.clone()),
-            }
-        }
-        parted
-    }
-}
-
-/// A lent array out of a lent list; `Question::fits` holds its length.
-fn array<const N: usize>(list: &mut [u64]) -> &mut [u64; N] {
-    list.try_into()
-        .expect("an array's length is checked with the question")
-}
-
-/// The program's output, as if lent; the value is its length.
+/// The oracle's output for the program's input.
 fn reply_program(input: &[u64]) -> Reply {
     let input: Vec<u8> = input.iter().map(|&byte| byte as u8).collect();
-    let output: Vec<u64> = oracle::callcheck(&input)
-        .into_iter()
-        .map(u64::from)
-        .collect();
-    let answer = Answer {
-        number: 0,
-        place: 0,
-        value: output.len() as u64,
-    };
-    Reply {
-        answer,
-        lent: vec![output],
-    }
-}
-
-fn reply_table(name: &str, list: &[u64], table: &mut [u64]) -> Answer {
-    match name {
-        "generate_copy_trace" => oracle::generate_copy_trace(list, table),
-        "generate_memw_trace" => oracle::generate_memw_trace(list, table),
-        "generate_memw_aligned_trace" => oracle::generate_memw_aligned_trace(list, table),
-        "generate_memw_register_trace" => oracle::generate_memw_register_trace(list, table),
-        _ => unreachable!("{name}"),
-    }
-}
-
-/// The functions that lend several lists, or take words.
-fn reply_lent(name: &str, n: &[u64], s: &[Vec<u64>], lent: &mut [Vec<u64>]) -> Answer {
-    match (name, lent) {
-        ("route_accesses", [register, aligned, general, counts]) => {
-            oracle::route_accesses(&s[0], register, aligned, general, array(counts))
-        }
-        ("push_reg_access", [record]) => {
-            let [val0, val1, old0, old1] = [1, 2, 3, 4].map(|i| n[i] as u32);
-            oracle::push_reg_access(
-                n[0],
-                val0,
-                val1,
-                old0,
-                old1,
-                n[5],
-                n[6],
-                n[7],
-                array(record),
-            )
-        }
-        ("collect_copy_register_ops", [state, records]) => {
-            let (state, records) = (array(state), array(records));
-            oracle::collect_copy_register_ops(n[0], n[1], n[2], n[3], n[4], state, records)
-        }
-        ("collect_copy_ops", lent) => reply_expansion(n, lent),
-        ("read_back", [ops, calls, counts]) => {
-            oracle::read_back(n[0], &s[0], ops, calls, array(counts))
-        }
-        _ => unreachable!("{name}"),
-    }
-}
-
-/// Bytes are numbers in a question and bytes in the call.
-fn reply_expansion(n: &[u64], lent: &mut [Vec<u64>]) -> Answer {
-    let [bytes, stamps, ops, accesses, counts] = lent else {
-        unreachable!("five lent lists")
-    };
-    let mut plain: Vec<u8> = bytes.iter().map(|&byte| byte as u8).collect();
-    #[rustfmt::skip]
-    let answer = oracle::collect_copy_ops(
-        n[0], n[1], n[2], n[3], n[4], n[5], &mut plain, stamps, ops, accesses, array(counts),
-    );
-    *bytes = plain.into_iter().map(u64::from).collect();
-    answer
+    Reply::of_output(&oracle::callcheck(&input))
 }

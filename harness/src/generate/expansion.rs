@@ -3,7 +3,7 @@
 
 use super::numbers::{bad_gap, edge, gap, junk};
 use crate::oracle::LIST_LIMIT;
-use crate::protocol::{Argument, Question};
+use crate::protocol::{Argument, Question, Reply};
 use crate::rng::Rng;
 
 /// The window that the last accepted call left.
@@ -26,8 +26,8 @@ struct Draft {
 }
 
 impl Window {
-    /// The next question; the window goes on from the reply.
-    pub fn question(&mut self, rng: &mut Rng) -> Question {
+    /// The next question and its reply, from which the window goes on.
+    pub fn asked(&mut self, rng: &mut Rng) -> (Question, Reply) {
         let large = self.bytes.len() > 1000;
         if self.bytes.is_empty() || rng.once_in(if large { 5 } else { 50 }) {
             self.renew(rng);
@@ -46,7 +46,7 @@ impl Window {
             self.bytes = reply.lent[0].clone();
             self.stamps = reply.lent[1].clone();
         }
-        question
+        (question, reply)
     }
 
     fn renew(&mut self, rng: &mut Rng) {

@@ -11,7 +11,7 @@ mod registers;
 pub mod rows;
 mod solve;
 
-use crate::protocol::{FUNCTIONS, Question};
+use crate::protocol::{FUNCTIONS, Question, Reply};
 use crate::rng::Rng;
 
 /// Questions of one kind: a name of `FUNCTIONS`, or `all` for each in turn.
@@ -42,23 +42,42 @@ impl Generator {
     }
 
     pub fn question(&mut self) -> Question {
-        let rng = &mut self.rng;
+        self.next().0
+    }
+
+    /// A question and the oracle's reply.
+    pub fn asked(&mut self) -> (Question, Reply) {
+        let (question, reply) = self.next();
+        let reply = reply.unwrap_or_else(|| question.reply());
+        (question, reply)
+    }
+
+    /// The reply comes too where the next question goes on from it.
+    fn next(&mut self) -> (Question, Option<Reply>) {
         let kind = self.kinds[self.asked % self.kinds.len()];
         self.asked += 1;
-        match kind {
-            "field_add" | "field_sub" | "field_mul" => field_question(rng, kind),
-            "add_pair" => operands::question(rng),
-            "route_accesses" => records::route_question(rng),
-            "push_reg_access" => records::push_question(rng),
-            "new_register_state" => registers::new_question(rng),
-            "collect_copy_register_ops" => self.registers.question(rng),
-            "collect_copy_ops" => self.window.question(rng),
-            "chain_check" => lists::check_question(rng),
-            "read_back" => lists::read_question(rng),
-            "callcheck" => programs::question(rng),
-            _ if kind.ends_with("residue") => rows::residue_question(rng, kind),
-            _ => records::table_question(rng, kind),
-        }
+        let in_turn = match kind {
+            "collect_copy_register_ops" => self.registers.asked(&mut self.rng),
+            "collect_copy_ops" => self.window.asked(&mut self.rng),
+            _ => return (question(&mut self.rng, kind), None),
+        };
+        (in_turn.0, Some(in_turn.1))
+    }
+}
+
+/// A question to a function that goes on from no reply.
+fn question(rng: &mut Rng, kind: &str) -> Question {
+    match kind {
+        "field_add" | "field_sub" | "field_mul" => field_question(rng, kind),
+        "add_pair" => operands::question(rng),
+        "route_accesses" => records::route_question(rng),
+        "push_reg_access" => records::push_question(rng),
+        "new_register_state" => registers::new_question(rng),
+        "chain_check" => lists::check_question(rng),
+        "read_back" => lists::read_question(rng),
+        "callcheck" => programs::question(rng),
+        _ if kind.ends_with("residue") => rows::residue_question(rng, kind),
+        _ => records::table_question(rng, kind),
     }
 }
 

@@ -1,7 +1,7 @@
 //! Register steps in turn over one state, and new states.
 
 use super::numbers::{edge, junk};
-use crate::protocol::{Argument, Question};
+use crate::protocol::{Argument, Question, Reply};
 use crate::rng::Rng;
 
 const STATE: usize = 68;
@@ -19,8 +19,8 @@ pub struct Registers {
 }
 
 impl Registers {
-    /// The next question; the state goes on from the reply.
-    pub fn question(&mut self, rng: &mut Rng) -> Question {
+    /// The next question and its reply, from which the state goes on.
+    pub fn asked(&mut self, rng: &mut Rng) -> (Question, Reply) {
         if self.state.is_empty() || rng.once_in(20) {
             self.renew(rng);
         }
@@ -32,7 +32,7 @@ impl Registers {
         if reply.answer.number == 0 {
             self.state = reply.lent[0].clone();
         }
-        question
+        (question, reply)
     }
 
     /// A new state, or any numbers, the index mostly a word.

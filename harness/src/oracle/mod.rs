@@ -21,7 +21,7 @@ pub use expansion::collect_copy_ops;
 pub use field::{field_add, field_mul, field_sub};
 pub use math::field::goldilocks::PRIME;
 pub use operands::add_pair;
-pub use registers::{collect_copy_register_ops, new_register_state};
+pub use registers::{collect_copy_register_ops, flat as flat_registers, new_register_state};
 pub use residues::{copy_residue, memw_aligned_residue, memw_register_residue, memw_residue};
 pub use tables::{
     generate_copy_trace, generate_memw_aligned_trace, generate_memw_register_trace,
@@ -36,7 +36,8 @@ pub const GAP_LIMIT: u64 = 1 << 32;
 pub const LIST_LIMIT: usize = 65_536;
 
 /// `number` is 0 or a refusal's; `place` is the refusal's place; `value` is the
-/// result, or the residue's index for 16.
+/// result, or the residue's index for 16. Laid out as the exported functions return it.
+#[repr(C)]
 #[derive(Debug, Clone, Copy, PartialEq, Eq)]
 pub struct Answer {
     pub number: u64,

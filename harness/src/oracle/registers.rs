@@ -67,7 +67,8 @@ fn registers_of(state: &[u64; STATE]) -> Registers {
     }
 }
 
-fn flat(registers: &Registers) -> [u64; STATE] {
+/// A register file as the numbers of a state.
+pub fn flat(registers: &Registers) -> [u64; STATE] {
     let mut state = [0; STATE];
     state[..32].copy_from_slice(&registers.values);
     state[32..64].copy_from_slice(&registers.stamps);

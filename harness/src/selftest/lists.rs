@@ -1,6 +1,7 @@
 //! Row lists: sound exactly if the chain check passes them; tables of calls.
 
 use super::{Report, Tally};
+use crate::bench::one_pass;
 use crate::generate::{Generator, calls, numbers};
 use crate::oracle;
 use crate::protocol::{Argument, Question};
@@ -11,6 +12,7 @@ pub fn run(report: &mut Report, seed: u64, count: u64) {
     report.add(passes_exactly_if_sound(seed, count));
     report.add(rows_are_the_originals(seed, count / 4));
     report.add(expanded_calls_come_back(seed, count / 20));
+    report.add(one_pass_agrees(seed, count));
 }
 
 /// A cut call's operation records.
@@ -112,6 +114,33 @@ fn expanded_calls_come_back(seed: u64, count: u64) -> Tally {
         tally.case(holds, || format!("gap {gap}, calls {calls:?}"));
     }
     tally
+}
+
+/// The check that the benchmark measures against.
+fn one_pass_agrees(seed: u64, count: u64) -> Tally {
+    let mut tally = Tally::new("the one-pass check and read-back answer as the oracle");
+    let mut generator = Generator::new("read_back", seed).expect("a kind");
+    for _ in 0..count {
+        let (question, reply) = generator.asked();
+        let [Argument::Number(gap), lists @ ..] = &question.arguments[..] else {
+            unreachable!("read_back takes a gap and lists")
+        };
+        let [rows, ops, calls, counts] = [0, 1, 2, 3].map(|i| list_of(&lists[i]));
+        let (mut ops, mut calls) = (ops.to_vec(), calls.to_vec());
+        let mut counts = [counts[0], counts[1]];
+        let answer = one_pass::read_back(*gap, rows, &mut ops, &mut calls, &mut counts);
+        let read = answer == reply.answer && [ops, calls, counts.to_vec()] == reply.lent[..];
+        let checked = one_pass::chain_check(*gap, rows) == oracle::chain_check(*gap, rows);
+        tally.case(read && checked, || question.line());
+    }
+    tally
+}
+
+fn list_of(argument: &Argument) -> &[u64] {
+    match argument {
+        Argument::List(list) => list,
+        Argument::Number(_) => unreachable!("the last four parameters are lists"),
+    }
 }
 
 fn number_of(argument: &Argument) -> u64 {

@@ -33,8 +33,11 @@ pub fn add_pair(operands: [&AddOperand; 3], conditions: &[usize], row: &[u64]) -
     evaluator.residues()
 }
 
+/// What the makers of the original return.
+pub type Trace = TraceTable<GoldilocksField, GoldilocksExtension>;
+
 /// A table's numbers, row after row.
-pub fn numbers(trace: &TraceTable<GoldilocksField, GoldilocksExtension>) -> Vec<u64> {
+pub fn numbers(trace: &Trace) -> Vec<u64> {
     trace
         .main_table
         .data

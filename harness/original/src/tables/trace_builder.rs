@@ -88,17 +88,43 @@ pub fn new_register_state(entry_point: u64, stack_top: u64) -> Registers {
     registers
 }
 
-/// The register step: the accesses, and the file afterwards. The file comes back
-/// only on success: the original has written part of it when it errs.
+/// A register file in the original's own form, which steps go on from.
+pub struct RegisterFile(RegisterState);
+
+impl RegisterFile {
+    pub fn new(registers: &Registers) -> Self {
+        Self(RegisterState::from(registers))
+    }
+
+    pub fn registers(&self) -> Registers {
+        Registers::from(&self.0)
+    }
+
+    pub fn set_index(&mut self, index: u32) {
+        self.0.index_register.0 = index;
+    }
+
+    /// The accesses of a call. The original has written part of the file when it errs.
+    pub fn step(
+        &mut self,
+        functionality: copy::Functionality,
+        timestamp: u64,
+        [src, dst, count]: [u64; 3],
+    ) -> Result<Vec<MemwOperation>, Error> {
+        collect_copy_register_ops(functionality, timestamp, src, dst, count, &mut self.0)
+    }
+}
+
+/// The register step: the accesses, and the file afterwards.
 pub fn register_step(
     functionality: copy::Functionality,
     timestamp: u64,
-    [src, dst, count]: [u64; 3],
+    call: [u64; 3],
     registers: &Registers,
 ) -> Result<(Vec<MemwOperation>, Registers), Error> {
-    let mut state = RegisterState::from(registers);
-    let ops = collect_copy_register_ops(functionality, timestamp, src, dst, count, &mut state)?;
-    Ok((ops, Registers::from(&state)))
+    let mut file = RegisterFile::new(registers);
+    let ops = file.step(functionality, timestamp, call)?;
+    Ok((ops, file.registers()))
 }
 
 /// The memory that a call finds and leaves.

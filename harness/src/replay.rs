@@ -1,0 +1,239 @@
+//! The recorded questions and answers of the replay programs, which ask the exported
+//! functions inside the repository's own tests. A question is a line: the function's
+//! number within the program, then its parameters, a slice as its length and its
+//! numbers. The answer is number, place, value, then each lent slice afterwards as its
+//! length and its numbers, one number to a line.
+
+use crate::generate::Generator;
+use crate::oracle::PRIME;
+use crate::protocol::{Argument, Question, Reply};
+use std::collections::BTreeMap;
+use std::fmt::Write;
+use std::fs;
+use std::path::Path;
+
+/// A program's crate, and the functions that it asks, by number.
+struct Program {
+    name: &'static str,
+    parts: &'static [Part],
+}
+
+/// A function, and how many questions of each class are kept.
+struct Part {
+    name: &'static str,
+    answered: usize,
+    refused: usize,
+    /// How many numbers a question may have.
+    longest: usize,
+}
+
+const fn part(name: &'static str, [answered, refused]: [usize; 2], longest: usize) -> Part {
+    Part {
+        name,
+        answered,
+        refused,
+        longest,
+    }
+}
+
+const PROGRAMS: &[Program] = &[
+    Program {
+        name: "replay_field",
+        parts: &[
+            part("field_add", [150, 30], 2),
+            part("field_sub", [150, 30], 2),
+            part("field_mul", [150, 30], 2),
+        ],
+    },
+    Program {
+        name: "replay_copy",
+        parts: &[
+            part("generate_copy_trace", [1, 1], 420),
+            part("copy_residue", [1, 1], 50),
+            part("add_pair", [20, 1], 120),
+        ],
+    },
+    Program {
+        name: "replay_access",
+        parts: &[
+            part("generate_memw_trace", [1, 1], 235),
+            part("generate_memw_aligned_trace", [1, 1], 180),
+            part("generate_memw_register_trace", [1, 1], 130),
+            part("memw_residue", [1, 1], 60),
+            part("memw_aligned_residue", [1, 1], 40),
+            part("memw_register_residue", [1, 1], 20),
+            part("route_accesses", [1, 1], 180),
+            part("push_reg_access", [4, 1], 40),
+            part("new_register_state", [1, 0], 80),
+            part("collect_copy_register_ops", [1, 1], 200),
+        ],
+    },
+    Program {
+        name: "replay_expansion",
+        parts: &[part("collect_copy_ops", [2, 1], 300)],
+    },
+    Program {
+        name: "replay_chain",
+        parts: &[
+            part("chain_check", [2, 1], 130),
+            part("read_back", [2, 1], 220),
+        ],
+    },
+];
+
+/// A program reads fewer bytes than this, and no more numbers than that.
+const BYTES: usize = 65_536;
+const NUMBERS: usize = 8_192;
+
+/// Questions that are looked at for each function.
+const DRAWS: usize = 20_000;
+
+/// Writes the files of each program whose folder is there.
+pub fn run(crates: &str, seed: u64) -> Result<(), String> {
+    for program in PROGRAMS {
+        let folder = Path::new(crates).join(program.name);
+        if !folder.is_dir() {
+            println!("{}: no such folder in {crates}, left out", program.name);
+            continue;
+        }
+        let script = program.script(seed)?;
+        let write = |file: &str, text: &str| {
+            fs::write(folder.join(file), text).map_err(|error| format!("{file}: {error}"))
+        };
+        write("stdin", &script.questions)?;
+        write("stdout", &script.answers)?;
+        println!("{}: {}", program.name, script.summary());
+    }
+    Ok(())
+}
+
+/// What a program reads and must write.
+#[derive(Default)]
+struct Script {
+    questions: String,
+    answers: String,
+    asked: usize,
+    numbers: usize,
+}
+
+impl Program {
+    fn script(&self, seed: u64) -> Result<Script, String> {
+        let mut script = Script::default();
+        for (number, part) in self.parts.iter().enumerate() {
+            for (question, reply) in part.questions(seed) {
+                script.add(number, &question, &reply);
+            }
+        }
+        if script.questions.len() >= BYTES || script.numbers > NUMBERS {
+            return Err(format!("{}: too long: {}", self.name, script.summary()));
+        }
+        Ok(script)
+    }
+}
+
+impl Script {
+    fn add(&mut self, function: usize, question: &Question, reply: &Reply) {
+        self.asked += 1;
+        self.numbers += 1 + question.size();
+        let named = question.line();
+        let (_, parameters) = named
+            .split_once(' ')
+            .expect("every function has parameters");
+        let _ = writeln!(self.questions, "{function} {parameters}");
+        self.answers += &reply.line().replace(' ', "\n");
+        self.answers.push('\n');
+    }
+
+    fn summary(&self) -> String {
+        let (asked, numbers, bytes) = (self.asked, self.numbers, self.questions.len());
+        format!("{asked} questions, {numbers} numbers, {bytes} bytes")
+    }
+}
+
+impl Part {
+    /// The questions that are always asked, then so many of each class.
+    fn questions(&self, seed: u64) -> Vec<(Question, Reply)> {
+        let fixed = fixed(self.name).into_iter();
+        let mut kept: Vec<_> = fixed
+            .map(|question| (question.clone(), question.reply()))
+            .collect();
+        let mut classes: BTreeMap<[u64; 2], usize> = BTreeMap::new();
+        let mut generator = Generator::new(self.name, seed).expect("a kind");
+        for _ in 0..DRAWS {
+            let (question, reply) = generator.asked();
+            let seen = classes.entry(class(&question, &reply)).or_default();
+            let most = match reply.answer.number {
+                0 => self.answered,
+                _ => self.refused,
+            };
+            if question.size() <= self.longest && *seen < most {
+                *seen += 1;
+                kept.push((question, reply));
+            }
+        }
+        kept
+    }
+}
+
+/// What makes two questions alike: the answer's number; of a refusal its place, as far
+/// as it tells places apart, or the residue; of an answer what it is about.
+fn class(question: &Question, reply: &Reply) -> [u64; 2] {
+    let answer = reply.answer;
+    match (question.name(), answer.number) {
+        (_, 0) => {}
+        ("chain_check", 16) => return [16, answer.value],
+        ("read_back", 16) => return [16, 0],
+        (_, number) => return [number, answer.place.min(2)],
+    }
+    let numbers: Vec<u64> = question.arguments.iter().filter_map(number).collect();
+    let chosen = match question.name() {
+        name if name.ends_with("residue") => numbers[numbers.len() - 1],
+        name if name.starts_with("generate") => first_length(question),
+        "route_accesses" => first_length(question),
+        "collect_copy_register_ops" => numbers[0],
+        // The kind, and whether the call is empty, narrow rows only, or has wide ones.
+        "collect_copy_ops" => 3 * numbers[0] + numbers[4].min(8).div_ceil(7),
+        "push_reg_access" | "chain_check" | "read_back" => answer.value,
+        _ => 0,
+    };
+    [0, chosen]
+}
+
+fn number(argument: &Argument) -> Option<u64> {
+    match argument {
+        Argument::Number(number) => Some(*number),
+        Argument::List(_) => None,
+    }
+}
+
+/// The length of the first list, which these functions begin with.
+fn first_length(question: &Question) -> u64 {
+    match &question.arguments[0] {
+        Argument::List(list) => list.len() as u64,
+        Argument::Number(number) => *number,
+    }
+}
+
+/// Field operations on all pairs of numbers at the edges of 2^32, p and 2^64.
+fn fixed(name: &str) -> Vec<Question> {
+    const TWO_32: u64 = 1 << 32;
+    const EDGES: [u64; 11] = [
+        0,
+        1,
+        2,
+        TWO_32 - 1,
+        TWO_32,
+        TWO_32 + 1,
+        PRIME - 2,
+        PRIME - 1,
+        PRIME,
+        PRIME + 1,
+        u64::MAX,
+    ];
+    if !name.starts_with("field_") {
+        return Vec::new();
+    }
+    let pairs = EDGES.iter().flat_map(|&a| EDGES.map(|b| [a, b]));
+    let question = |pair: [u64; 2]| Question::new(name, pair.map(Argument::Number).into());
+    pairs.map(question).collect()
+}
