@@ -139,7 +139,9 @@ module _ (limit : ℕ) (l : List ℕ) (register aligned general : ℕ) where
   pub record RoutedFacts (r a g : ℕ) : Type 0 where
     pub allowed : recordCount ACCESS-WIDTH l ≤ limit
     pub fine : recordCount ACCESS-WIDTH l ≤ firstRefused l
-    pub counted : Routed r a g ≡ counts l
+    pub count-register : r ≡ countOf Register l (recordCount ACCESS-WIDTH l)
+    pub count-aligned : a ≡ countOf Aligned l (recordCount ACCESS-WIDTH l)
+    pub count-general : g ≡ countOf General l (recordCount ACCESS-WIDTH l)
     pub holds-register : Holds Register l register
     pub holds-aligned : Holds Aligned l aligned
     pub holds-general : Holds General l general
@@ -168,7 +170,9 @@ module _ (limit : ℕ) (l : List ℕ) (register aligned general : ℕ) where
           record {
             allowed = ltb-false limit (recordCount ACCESS-WIDTH l) hx;
             fine = ltb-false (firstRefused l) (recordCount ACCESS-WIDTH l) hy;
-            counted = refl;
+            count-register = refl;
+            count-aligned = refl;
+            count-general = refl;
             holds-register = leb-true _ _ (a .0);
             holds-aligned = leb-true _ _ (b .0);
             holds-general = leb-true _ _ (b .1);

@@ -5,6 +5,7 @@ use access::ACCESS_WIDTH;
 use access::BASE_ADDRESS;
 use access::good_access;
 use classify::MemwRoute;
+use classify::REGISTER_WIDTH;
 use classify::route::address_fits;
 use classify::route::classify;
 use classify::route::register_record;
@@ -96,7 +97,9 @@ fn route_answer(
             aligned: a,
             general: g,
         } => {
-            if (8 * r <= register) & ((29 * a <= aligned) & (29 * g <= general)) {
+            if (REGISTER_WIDTH * r <= register)
+                & ((ACCESS_WIDTH * a <= aligned) & (ACCESS_WIDTH * g <= general))
+            {
                 return answer;
             }
             RouteAnswer::BufferShort
@@ -220,19 +223,19 @@ fn put_access(
     let route = classify(op);
     match route {
         MemwRoute::Register => {
-            let at = 8 * ends.register;
+            let at = REGISTER_WIDTH * ends.register;
             let record = register_record(op);
-            put(&mut register[at..at + 8], &record);
+            put(&mut register[at..at + REGISTER_WIDTH], &record);
             one_more(route, ends)
         }
         MemwRoute::Aligned => {
-            let at = 29 * ends.aligned;
-            put(&mut aligned[at..at + 29], op);
+            let at = ACCESS_WIDTH * ends.aligned;
+            put(&mut aligned[at..at + ACCESS_WIDTH], op);
             one_more(route, ends)
         }
         MemwRoute::General => {
-            let at = 29 * ends.general;
-            put(&mut general[at..at + 29], op);
+            let at = ACCESS_WIDTH * ends.general;
+            put(&mut general[at..at + ACCESS_WIDTH], op);
             one_more(route, ends)
         }
     }
