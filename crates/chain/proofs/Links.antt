@@ -1,8 +1,8 @@
 -- The link rule by what stands before: the four ways in which the code decides it, and what the row before is to it. Assumes nothing.
-use mathlib.Core.Path.{_≡_, refl, sym, ap, _∙_}
+use mathlib.Core.Path.{_≡_, refl, ap, _∙_}
 use mathlib.Core.Bool.{Bool, true, false, cond, not, _&&_, _||_}
 use mathlib.Core.List.{List, [], _∷_}
-use Prim.Native.Nat.{ℕ, zero, suc, _<_}
+use Prim.Native.Nat.{ℕ, _<_}
 use native.Mathlib.Omega.{arith}
 use borrow.Author.Tests.{eq-eqb, ne-eqb}
 use lib.Dec.{eqb}
@@ -10,7 +10,7 @@ use lib.ListN.{length}
 use Rattle.copy_row.specs.Columns.{at, TIMESTAMP, SRC, SRC-INCR, DST, DST-INCR, COUNT, COUNT-DECR, FIRST, END, IS-SET, IS-WRITE, MU, COLUMNS}
 use Rattle.copy_meaning.specs.ReadRow.{wordsAt, halvesAt}
 use Rattle.plain_row.specs.Tests.{Fits}
-use Rattle.chain.specs.Link.{Before, closed, unended, dead, same, shown, handedOn, linked, before}
+use Rattle.chain.specs.Link.{closed, unended, dead, same, shown, handedOn, linked, before}
 use Rattle.chain.specs.Standing.{standing, Stood, isUnended}
 
 -- ---- seven equal numbers, as the code joins the tests

@@ -1,7 +1,7 @@
 -- The chain check. Document 01: "chain check 7, 13, then row by row 14 to 17, then 18", "The check stops at the first row and, in it, the
 -- first check that fails." Assumes nothing.
 use Prim.Native.Nat.{ℕ, zero, suc, _+_, _/_, _%_, _^_}
-use mathlib.Core.Bool.{Bool, true, false, cond}
+use mathlib.Core.Bool.{cond}
 use mathlib.Core.List.{List, [], _∷_}
 use lib.Dec.{eqb, leb}
 use lib.ListN.{length, take, drop}

@@ -3,7 +3,7 @@ use mathlib.Core.Path.{_≡_, refl, sym, subst}
 use mathlib.Core.Bool.{Bool, true, false, not, _&&_, _||_}
 use mathlib.Core.Logic.{_⊎_, inl, inr}
 use mathlib.Core.List.{List}
-use Prim.Native.Nat.{ℕ, zero, suc, _+_, _-_, _*_, _^_, _≤_, _<_}
+use Prim.Native.Nat.{ℕ, zero, suc, _+_, _≤_, _<_}
 use native.Mathlib.Omega.{arith}
 use lib.Dec.{eqb, leb, lit<}
 use lib.ListN.{getD}
@@ -15,7 +15,7 @@ use Rattle.copy_residues.specs.Range.{columnLimits}
 use Rattle.copy_meaning.specs.RowIff.{InRange}
 use Rattle.copy_meaning.proofs.Columns as Ranged
 use Rattle.plain_row.specs.Tests.{caps, Fits, TwoWords, FourHalves, TailAt}
-use Rattle.plain_row.proofs.Booleans.{and-true, true-and, or-true, true-or}
+use Rattle.plain_row.proofs.Booleans.{and-true, or-true, true-or}
 
 -- a cap is at most the column's limit
 caps-limits : (c : ℕ) → c < COLUMNS → getD caps c 0 ≤ getD columnLimits c 0

@@ -8,7 +8,7 @@ use native.Mathlib.Omega.{arith}
 use lib.Dec.{eqb, ltb, leb}
 use borrow.Author.Tests.{eqb-true, eqb-false, leb-true, ltb-true, eq-eqb, le-leb, lt-ltb}
 use Rattle.words.specs.Words.{wrapAdd, wrapSub}
-use Rattle.words.proofs.Wrap.{add-plain, sub-plain, sub-wrapped}
+use Rattle.words.proofs.Wrap.{sub-plain, sub-wrapped}
 use Rattle.plain_row.specs.Tests.{Flags, Moves, Counts}
 use Rattle.plain_row.proofs.Booleans.{and-true, true-and, or-true, true-or}
 

@@ -1,7 +1,6 @@
 -- `link::unended`: nothing is not unended, and a row is if it is live without END. Assumes nothing.
 use mathlib.Core.Path.{refl, sym}
 use native.Mathlib.Omega.{arith}
-use borrow.Author.Needs.{needs}
 use Rattle.chain.proofs.Links.{row-stood, standing-none, is-unended}
 use Rattle.chain.proofs.link.unended.Statement.{statement}
 use Rattle.chain.proofs.link.unended.Tie as tie

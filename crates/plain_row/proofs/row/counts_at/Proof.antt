@@ -1,5 +1,4 @@
 -- `row::counts_at`: the test of the numbers read. Assumes nothing.
-use native.Mathlib.Omega.{arith}
 use borrow.Author.Needs.{needs}
 use Rattle.plain_row.proofs.Columns.{count-halves, single-bit, end-bit}
 use Rattle.plain_row.proofs.row.counts_at.Statement.{statement}

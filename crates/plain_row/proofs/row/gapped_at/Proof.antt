@@ -1,5 +1,4 @@
 -- `row::gapped_at`: the test of the numbers read. Assumes nothing.
-use native.Mathlib.Omega.{arith}
 use borrow.Author.Needs.{needs}
 use Rattle.plain_row.proofs.Columns.{src-words, dst-words, set-bit}
 use Rattle.plain_row.proofs.row.gapped_at.Statement.{statement}

@@ -1,5 +1,4 @@
 -- `row::moves_at`: the test of the numbers read. Assumes nothing.
-use native.Mathlib.Omega.{arith}
 use borrow.Author.Needs.{needs}
 use Rattle.plain_row.proofs.Columns.{single-bit, mu-bit}
 use Rattle.plain_row.proofs.row.moves_at.Statement.{statement}

@@ -1,5 +1,4 @@
 -- `row::results_at`: the test of the numbers read. Assumes nothing.
-use native.Mathlib.Omega.{arith}
 use borrow.Author.Needs.{needs}
 use Rattle.plain_row.proofs.Columns.{dst-words, res-halves, write-bit}
 use Rattle.plain_row.proofs.row.results_at.Statement.{statement}
