@@ -3,7 +3,10 @@
 // from the Rust harness, on numbers and slices". docs/CALLING.md says how to call each. Assumes nothing.
 use answer::Answer;
 ghost use mathlib.Core.Path.{_≡_};
+ghost use lib.ListN.{length};
 ghost use Rattle.field.specs.Answers.{addAnswer, subAnswer, mulAnswer, fieldNumbers};
+ghost use Rattle.records.specs.Table.{tableNumbers};
+ghost use Rattle.copy_row.specs.Trace.{copyAnswer, copyAfter};
 
 // a + b modulo p, or 14.
 #[no_mangle]
@@ -27,4 +30,13 @@ pub extern "C" fn field_mul(a: u64, b: u64) -> Answer
     ensures answer { λ r. ⌜ r ≡ fieldNumbers (mulAnswer a b) ⌝ }
 {
     field::numbers(field::field_mul(a, b))
+}
+
+// The copy table of the operation records, or 8, 10, 9; the value is the number of rows.
+#[no_mangle]
+pub extern "C" fn generate_copy_trace(ops: &[u64], table: &mut [u64]) -> Answer
+    ensures answer { λ r. ⌜ r ≡ tableNumbers 8 (copyAnswer 65536 (now (ops .entry)) (length (now (table .entry)))) ⌝ }
+    ensures table { λ r. ⌜ now (table .exit) ≡ copyAfter (now (ops .entry)) (copyAnswer 65536 (now (ops .entry)) (length (now (table .entry)))) (now (table .entry)) ⌝ }
+{
+    records::numbers(8, copy_row::generate_copy_trace(ops, table))
 }

@@ -1,0 +1,96 @@
+-- The answers of the entries on operands, case by case; what it says that nothing is refused; and that nothing is lost in the numbers of
+-- an answer. Assumes nothing.
+use mathlib.Core.Path.{_≡_, refl, sym, ap, _∙_, subst}
+use mathlib.Core.Bool.{Bool, true, false, cond}
+use mathlib.Core.List.{List}
+use Prim.Native.Nat.{ℕ, _≤_, _<_}
+use native.Mathlib.Omega.{arith}
+use borrow.Author.Tests.{eq-eqb, ne-eqb, lt-ltb, le-ltb, eqb-true, ltb-false}
+use lib.Dec.{eqb, ltb}
+use lib.ListN.{length}
+use Rattle.copy_row.specs.Columns.{COLUMNS}
+use Rattle.operands.specs.Elements.{firstLarge, ElementRow}
+use Rattle.operands.specs.Answers.{pairFault, pairAnswerOf, carryAnswerOf, PairNumbers, pairNumbers, carryNumbers}
+use Rattle.operands.specs.declared.PairFault.{PairFault}
+use Rattle.operands.specs.declared.PairFault.the-variants as fault
+use Rattle.operands.specs.declared.PairAnswer.{PairAnswer}
+use Rattle.operands.specs.declared.PairAnswer.the-variants as pair
+use Rattle.operands.specs.declared.CarryAnswer.{CarryAnswer}
+use Rattle.operands.specs.declared.CarryAnswer.the-variants as carry
+use Rattle.operands.proofs.Elements.{element-row}
+
+-- the four outcomes of a judgement, in the order of their tests
+module _ (inRow : Bool) (row : List ℕ) where
+  pub outside : inRow ≡ false → fault.OutsideRow ≡ pairFault inRow row
+  unfolding pairFault
+  outside e = simp e
+
+  module _ (e : inRow ≡ true) where
+    pub not-row : (length row ≡ COLUMNS → ⊥) → fault.NotRow ≡ pairFault inRow row
+    unfolding pairFault
+    not-row h = simp (e, ne-eqb (length row) COLUMNS h)
+
+    module _ (w : length row ≡ COLUMNS) {place : ℕ} (f : place ≡ firstLarge row) where
+      pub not-element : place < COLUMNS → fault.NotElement place ≡ pairFault inRow row
+      unfolding pairFault
+      not-element h =
+          simp (e, eq-eqb (length row) COLUMNS w, lt-ltb (firstLarge row) COLUMNS (subst (λ (x : ℕ). x < COLUMNS) f h))
+          (ap fault.NotElement f)
+
+      pub fine : COLUMNS ≤ place → fault.Fine ≡ pairFault inRow row
+      unfolding pairFault
+      fine h =
+          simp (e, eq-eqb (length row) COLUMNS w, le-ltb (firstLarge row) COLUMNS (subst (λ (x : ℕ). COLUMNS ≤ x) f h))
+
+-- what a row is that is refused for nothing
+pub record Fine (inRow : Bool) (row : List ℕ) : Type 0 where
+  pub in-row : inRow ≡ true
+  pub row-is : ElementRow row
+
+number : PairFault → ℕ
+number fault.Fine = 0
+number fault.OutsideRow = 12
+number fault.NotRow = 13
+number (fault.NotElement place) = 14
+
+pub is-fine : (inRow : Bool) (row : List ℕ) → pairFault inRow row ≡ fault.Fine → Fine inRow row
+unfolding pairFault number
+is-fine false row e = absurd (omega (arith, ap number e))
+is-fine true row e = wide (eqb (length row) COLUMNS) (ltb (firstLarge row) COLUMNS) refl refl e
+  where
+    wide : (a b : Bool) → eqb (length row) COLUMNS ≡ a → ltb (firstLarge row) COLUMNS ≡ b
+        → cond a (cond b (fault.NotElement (firstLarge row)) fault.Fine) fault.NotRow ≡ fault.Fine
+        → Fine true row
+    wide false b f g h = absurd (omega (arith, ap number h))
+    wide true true f g h = absurd (omega (arith, ap number h))
+    wide true false f g h =
+        record {
+          in-row = refl;
+          row-is = element-row row (eqb-true (length row) COLUMNS f) (ltb-false (firstLarge row) COLUMNS g);
+        }
+
+-- an answer by its judgement
+pub pair-case : (f g : PairFault) (low high : ℕ) → f ≡ g → pairAnswerOf g low high ≡ pairAnswerOf f low high
+pair-case f g low high e = ap (λ x. pairAnswerOf x low high) (sym e)
+
+pub carry-case : (f g : PairFault) (c : ℕ) → f ≡ g → carryAnswerOf g c ≡ carryAnswerOf f c
+carry-case f g c e = ap (λ x. carryAnswerOf x c) (sym e)
+
+-- two answers with the same numbers are the same case with the same values
+pub pairNumbers-injective : (x y : PairAnswer) → pairNumbers x ≡ pairNumbers y → x ≡ y
+pairNumbers-injective (pair.Residues a b) (pair.Residues c d) e = λ i. pair.Residues (e i .low) (e i .high)
+pairNumbers-injective (pair.Residues a b) pair.OutsideRow e = absurd (omega (arith, ap (λ n. n .number) e))
+pairNumbers-injective (pair.Residues a b) pair.NotRow e = absurd (omega (arith, ap (λ n. n .number) e))
+pairNumbers-injective (pair.Residues a b) (pair.NotElement k) e = absurd (omega (arith, ap (λ n. n .number) e))
+pairNumbers-injective pair.OutsideRow (pair.Residues c d) e = absurd (omega (arith, ap (λ n. n .number) e))
+pairNumbers-injective pair.OutsideRow pair.OutsideRow e = refl
+pairNumbers-injective pair.OutsideRow pair.NotRow e = absurd (omega (arith, ap (λ n. n .number) e))
+pairNumbers-injective pair.OutsideRow (pair.NotElement k) e = absurd (omega (arith, ap (λ n. n .number) e))
+pairNumbers-injective pair.NotRow (pair.Residues c d) e = absurd (omega (arith, ap (λ n. n .number) e))
+pairNumbers-injective pair.NotRow pair.OutsideRow e = absurd (omega (arith, ap (λ n. n .number) e))
+pairNumbers-injective pair.NotRow pair.NotRow e = refl
+pairNumbers-injective pair.NotRow (pair.NotElement k) e = absurd (omega (arith, ap (λ n. n .number) e))
+pairNumbers-injective (pair.NotElement j) (pair.Residues c d) e = absurd (omega (arith, ap (λ n. n .number) e))
+pairNumbers-injective (pair.NotElement j) pair.OutsideRow e = absurd (omega (arith, ap (λ n. n .number) e))
+pairNumbers-injective (pair.NotElement j) pair.NotRow e = absurd (omega (arith, ap (λ n. n .number) e))
+pairNumbers-injective (pair.NotElement j) (pair.NotElement k) e = ap pair.NotElement (ap (λ n. n .place) e)

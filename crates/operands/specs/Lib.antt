@@ -1,0 +1,4 @@
+pub mod Elements
+pub mod Operands
+pub mod Pairs
+pub mod Answers

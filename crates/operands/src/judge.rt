@@ -1,0 +1,115 @@
+// Internal to the workspace, not open to callers: refusals 12, 13 and 14 of operands, condition columns and a row, in this order. Assumes
+// nothing.
+use crate::AddLinearTerm;
+use crate::AddOperand;
+use crate::OperandKind;
+use crate::PairFault;
+use crate::TermCell;
+use field::element::P;
+ghost use mathlib.Core.Path.{_≡_};
+ghost use Rattle.operands.specs.Elements.{firstLarge};
+ghost use Rattle.operands.specs.Operands.{termInRow, sumInRow, operandInRow, operandsInRow, conditionsInRow};
+ghost use Rattle.operands.specs.Answers.{pairFault};
+
+const NUM_COLUMNS: usize = 41;
+
+// Whether a term's column, where it has one, is in a copy row.
+fn term_in_row(t: AddLinearTerm) -> bool
+    ensures { λ r. ⌜ r ≡ termInRow t ⌝ }
+{
+    match t {
+        AddLinearTerm::Constant(_) => true,
+        AddLinearTerm::Column {
+            coefficient: _,
+            column,
+        } => column < NUM_COLUMNS,
+    }
+}
+
+// Whether a sum has at most four terms, and the first n terms of its array are in a copy row.
+fn sum_in_row(terms: [TermCell; 4], n: usize) -> bool
+    ensures { λ r. ⌜ r ≡ sumInRow terms n ⌝ }
+{
+    if 4 < n {
+        return false;
+    }
+    let mut k = 0;
+    while k < n {
+        let cell = terms[k];
+        let t = cell.term;
+        if !term_in_row(t) {
+            return false;
+        }
+        k += 1;
+    }
+    true
+}
+
+// Whether an operand has at most four terms in each sum, and all its columns in a copy row.
+fn operand_in_row(o: AddOperand) -> bool
+    ensures { λ r. ⌜ r ≡ operandInRow o ⌝ }
+{
+    let kind = o.kind;
+    match kind {
+        OperandKind::Words { column } => column < NUM_COLUMNS - 1,
+        OperandKind::Sums { low, high } => {
+            let low_terms = o.low;
+            let high_terms = o.high;
+            sum_in_row(low_terms, low) & sum_in_row(high_terms, high)
+        }
+    }
+}
+
+// Whether the three operands of a sum do.
+pub fn operands_in_row(lhs: AddOperand, rhs: AddOperand, sum: AddOperand) -> bool
+    ensures { λ r. ⌜ r ≡ operandsInRow lhs rhs sum ⌝ }
+{
+    operand_in_row(lhs) & operand_in_row(rhs) & operand_in_row(sum)
+}
+
+// Whether the condition columns are in a copy row.
+pub fn conditions_in_row(conditions: &[u64]) -> bool
+    ensures { λ r. ⌜ r ≡ conditionsInRow (now (conditions .entry)) ⌝ }
+{
+    let mut k = 0;
+    while k < conditions.len() {
+        if NUM_COLUMNS as u64 <= conditions[k] {
+            return false;
+        }
+        k += 1;
+    }
+    true
+}
+
+// The lowest number that is no element, or the length.
+pub fn first_large(row: &[u64]) -> usize
+    ensures { λ r. ⌜ r ≡ firstLarge (now (row .entry)) ⌝ }
+{
+    let mut c = 0;
+    while c < row.len() {
+        if P <= row[c] {
+            return c;
+        }
+        c += 1;
+    }
+    c
+}
+
+// The first of 12, 13 and 14 that holds, given whether all columns are in the row and no sum has more than four terms.
+pub fn pair_fault(in_row: bool, row: &[u64]) -> PairFault
+    ensures { λ r. ⌜ r ≡ pairFault in_row (now (row .entry)) ⌝ }
+{
+    if !in_row {
+        return PairFault::OutsideRow;
+    }
+    if row.len() != NUM_COLUMNS {
+        return PairFault::NotRow;
+    }
+    let place = first_large(row);
+    if place < NUM_COLUMNS {
+        return PairFault::NotElement {
+            place: place as u64,
+        };
+    }
+    PairFault::Fine
+}

@@ -1,0 +1,110 @@
+// Operands of a 64-bit sum and the sum's two residues, on one copy row. Document 01: "An `AddOperand` is two neighbouring word columns, or
+// a low and a high sum of at most four terms"; `emit_add_pair` and `add_pair_carry_hi` of the templates, evaluated on a row. The terms stand
+// in arrays beside the kind. Assumes nothing.
+pub mod judge;
+pub mod value;
+
+use judge::conditions_in_row;
+use judge::operands_in_row;
+use judge::pair_fault;
+use value::carries;
+use value::gated;
+ghost use mathlib.Core.Path.{_≡_};
+ghost use Rattle.operands.specs.Answers.{pairAnswer, pairNumbers, carryAnswer, carryNumbers};
+
+// A term of a sum: a constant, or a coefficient times a column.
+pub enum AddLinearTerm {
+    Constant(i64),
+    Column { coefficient: i64, column: usize },
+}
+
+// A term's place in an array.
+pub struct TermCell {
+    pub term: AddLinearTerm,
+}
+
+// Two neighbouring word columns, by the low one; or a low and a high sum, by how many terms each has.
+pub enum OperandKind {
+    Words { column: usize },
+    Sums { low: usize, high: usize },
+}
+
+// An operand of a 64-bit sum. Terms past a sum's number are not looked at.
+pub struct AddOperand {
+    pub kind: OperandKind,
+    pub low: [TermCell; 4],
+    pub high: [TermCell; 4],
+}
+
+// The first thing that is wrong with operands, conditions and a row, in document 01's order.
+pub enum PairFault {
+    Fine,
+    // 12: a sum of more than four terms, or a column outside the row
+    OutsideRow,
+    // 13: not 41 numbers
+    NotRow,
+    // 14: a number not below p, with the index of the lowest one
+    NotElement { place: u64 },
+}
+
+// The two residues of `emit_add_pair`, or a refusal.
+pub enum PairAnswer {
+    Residues { low: u64, high: u64 },
+    OutsideRow,
+    NotRow,
+    NotElement { place: u64 },
+}
+
+// The carry of `add_pair_carry_hi`, or a refusal.
+pub enum CarryAnswer {
+    Carry(u64),
+    OutsideRow,
+    NotRow,
+    NotElement { place: u64 },
+}
+
+// c0(1 - c0) and c1(1 - c1) of lhs + rhs = sum on the row, times the sum of the condition columns if there are any.
+pub fn emit_add_pair(
+    conditions: &[u64],
+    lhs: AddOperand,
+    rhs: AddOperand,
+    sum: AddOperand,
+    row: &[u64],
+) -> PairAnswer
+    ensures answer { λ r. ⌜ pairNumbers r ≡ pairNumbers (pairAnswer (now (conditions .entry)) lhs rhs sum (now (row .entry))) ⌝ }
+{
+    let in_row = conditions_in_row(conditions) & operands_in_row(lhs, rhs, sum);
+    let found = pair_fault(in_row, row);
+    match found {
+        PairFault::Fine => {
+            let c = carries(lhs, rhs, sum, row);
+            let low = gated(conditions, row, field::element::is_bit(c.low));
+            let high = gated(conditions, row, field::element::is_bit(c.high));
+            PairAnswer::Residues { low, high }
+        }
+        PairFault::OutsideRow => PairAnswer::OutsideRow,
+        PairFault::NotRow => PairAnswer::NotRow,
+        PairFault::NotElement { place } => PairAnswer::NotElement { place },
+    }
+}
+
+// c1, the carry out of the high words of lhs + rhs = sum on the row.
+pub fn add_pair_carry_hi(
+    lhs: AddOperand,
+    rhs: AddOperand,
+    sum: AddOperand,
+    row: &[u64],
+) -> CarryAnswer
+    ensures answer { λ r. ⌜ carryNumbers r ≡ carryNumbers (carryAnswer lhs rhs sum (now (row .entry))) ⌝ }
+{
+    let found = pair_fault(operands_in_row(lhs, rhs, sum), row);
+    match found {
+        PairFault::Fine => {
+            let c = carries(lhs, rhs, sum, row);
+            CarryAnswer::Carry(c.high)
+        }
+        PairFault::OutsideRow => CarryAnswer::OutsideRow,
+        PairFault::NotRow => CarryAnswer::NotRow,
+        PairFault::NotElement { place } => CarryAnswer::NotElement { place },
+    }
+}

@@ -1,0 +1,155 @@
+// Internal to the workspace, not open to callers: values of terms and operands on a copy row, and the carries of their sums. Assumes nothing.
+use crate::AddLinearTerm;
+use crate::AddOperand;
+use crate::OperandKind;
+use crate::TermCell;
+use field::element::INV_SHIFT_32;
+use field::element::P;
+use field::element::add;
+use field::element::mul;
+use field::element::sub;
+ghost use mathlib.Core.Path.{_≡_};
+ghost use mathlib.Core.Bool.{true};
+ghost use Prim.Native.Nat.{_<_};
+ghost use lib.ListN.{length};
+ghost use Rattle.field.specs.Field.{p};
+ghost use Rattle.field.specs.Carry.{carryLow, carryHigh};
+ghost use Rattle.copy_row.specs.Columns.{COLUMNS};
+ghost use Rattle.operands.specs.Elements.{ElementRow};
+ghost use Rattle.operands.specs.Operands.{signedP, termValue, termsValue, lowValue, highValue, termInRow, sumInRow, operandInRow, operandsInRow, conditionsInRow};
+ghost use Rattle.operands.specs.Pairs.{carryLo, carryHi, conditionSum, gated as gatedBy};
+
+// The carries c0 and c1.
+pub struct CarryPair {
+    pub low: u64,
+    pub high: u64,
+}
+
+// A signed number as an element. The complement of a negative n is |n| - 1.
+fn from_signed(n: i64) -> u64
+    ensures { λ r. ⌜ (r ≡ signedP n) × (r < p) ⌝ }
+{
+    if n < 0 { P - 1 - (!n) as u64 } else { n as u64 }
+}
+
+// A term on a row.
+fn term_value(t: AddLinearTerm, row: &[u64]) -> u64
+    requires { ⌜ (termInRow t ≡ true) × (length (now row) ≡ COLUMNS) ⌝ }
+    ensures { λ r. ⌜ (r ≡ termValue (now (row .entry)) t) × (r < p) ⌝ }
+{
+    match t {
+        AddLinearTerm::Constant(n) => from_signed(n),
+        AddLinearTerm::Column {
+            coefficient,
+            column,
+        } => mul(from_signed(coefficient), row[column]),
+    }
+}
+
+// The sum of the first n terms of an array on a row.
+fn terms_value(terms: [TermCell; 4], n: usize, row: &[u64]) -> u64
+    requires { ⌜ (sumInRow terms n ≡ true) × (length (now row) ≡ COLUMNS) ⌝ }
+    ensures { λ r. ⌜ (r ≡ termsValue (now (row .entry)) terms n) × (r < p) ⌝ }
+{
+    let mut total: u64 = 0;
+    let mut k = 0;
+    while k < n {
+        let cell = terms[k];
+        let t = cell.term;
+        total = add(total, term_value(t, row));
+        k += 1;
+    }
+    total
+}
+
+// An operand's low value on a row.
+fn low_value(o: AddOperand, row: &[u64]) -> u64
+    requires { ⌜ (operandInRow o ≡ true) × ElementRow (now row) ⌝ }
+    ensures { λ r. ⌜ (r ≡ lowValue (now (row .entry)) o) × (r < p) ⌝ }
+{
+    let kind = o.kind;
+    match kind {
+        OperandKind::Words { column } => row[column],
+        OperandKind::Sums { low, high: _ } => {
+            let terms = o.low;
+            terms_value(terms, low, row)
+        }
+    }
+}
+
+// An operand's high value on a row.
+fn high_value(o: AddOperand, row: &[u64]) -> u64
+    requires { ⌜ (operandInRow o ≡ true) × ElementRow (now row) ⌝ }
+    ensures { λ r. ⌜ (r ≡ highValue (now (row .entry)) o) × (r < p) ⌝ }
+{
+    let kind = o.kind;
+    match kind {
+        OperandKind::Words { column } => row[column + 1],
+        OperandKind::Sums { low: _, high } => {
+            let terms = o.high;
+            terms_value(terms, high, row)
+        }
+    }
+}
+
+// c0 of three low values.
+fn carry_low(a: u64, b: u64, s: u64) -> u64
+    requires { ⌜ (a < p) × (b < p) × (s < p) ⌝ }
+    ensures { λ r. ⌜ (r ≡ carryLow a b s) × (r < p) ⌝ }
+{
+    mul(sub(add(a, b), s), INV_SHIFT_32)
+}
+
+// c1 of three high values and c0.
+fn carry_high(a: u64, b: u64, c: u64, s: u64) -> u64
+    requires { ⌜ (a < p) × (b < p) × (c < p) × (s < p) ⌝ }
+    ensures { λ r. ⌜ (r ≡ carryHigh a b c s) × (r < p) ⌝ }
+{
+    mul(sub(add(add(a, b), c), s), INV_SHIFT_32)
+}
+
+// Both carries of lhs + rhs = sum.
+pub fn carries(lhs: AddOperand, rhs: AddOperand, sum: AddOperand, row: &[u64]) -> CarryPair
+    requires { ⌜ (operandsInRow lhs rhs sum ≡ true) × ElementRow (now row) ⌝ }
+    ensures low { λ r. ⌜ (r .low ≡ carryLo (now (row .entry)) lhs rhs sum) × (r .low < p) ⌝ }
+    ensures high { λ r. ⌜ (r .high ≡ carryHi (now (row .entry)) lhs rhs sum) × (r .high < p) ⌝ }
+{
+    let low = carry_low(
+        low_value(lhs, row),
+        low_value(rhs, row),
+        low_value(sum, row),
+    );
+    let high = carry_high(
+        high_value(lhs, row),
+        high_value(rhs, row),
+        low,
+        high_value(sum, row),
+    );
+    CarryPair { low, high }
+}
+
+// The sum of the condition columns.
+fn condition_sum(conditions: &[u64], row: &[u64]) -> u64
+    requires { ⌜ (conditionsInRow (now conditions) ≡ true) × ElementRow (now row) ⌝ }
+    ensures { λ r. ⌜ (r ≡ conditionSum (now (conditions .entry)) (now (row .entry))) × (r < p) ⌝ }
+{
+    let mut total: u64 = 0;
+    let mut k = 0;
+    while k < conditions.len() {
+        let column = conditions[k] as usize;
+        total = add(total, row[column]);
+        k += 1;
+    }
+    total
+}
+
+// x, times the sum of the condition columns if there are any.
+pub fn gated(conditions: &[u64], row: &[u64], x: u64) -> u64
+    requires { ⌜ (conditionsInRow (now conditions) ≡ true) × ElementRow (now row) × (x < p) ⌝ }
+    ensures { λ r. ⌜ (r ≡ gatedBy (now (conditions .entry)) (now (row .entry)) x) × (r < p) ⌝ }
+{
+    if conditions.len() == 0 {
+        return x;
+    }
+    mul(condition_sum(conditions, row), x)
+}
