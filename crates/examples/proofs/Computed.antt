@@ -9,10 +9,11 @@ use Rattle.examples.specs.Examples.{StarredExamples}
 pub starred-examples : StarredExamples
 unfolding mulP rowCount doubled
 starred-examples =
-    record
-      { no-records = refl
-      ; five-records = refl
-      ; minus-one-squared = refl
-      ; word-squared = refl
-      ; residues = residue-examples
-      ; carries = carry-examples }
+    record {
+      no-records = refl;
+      five-records = refl;
+      minus-one-squared = refl;
+      word-squared = refl;
+      residues = residue-examples;
+      carries = carry-examples;
+    }
