@@ -1,7 +1,7 @@
 -- The answers of the entries on operands, case by case; what it says that nothing is refused; and that nothing is lost in the numbers of
 -- an answer. Assumes nothing.
 use mathlib.Core.Path.{_≡_, refl, sym, ap, _∙_, subst}
-use mathlib.Core.Bool.{Bool, true, false, cond}
+use mathlib.Core.Bool.{Bool, true, false, cond, _&&_}
 use mathlib.Core.List.{List}
 use Prim.Native.Nat.{ℕ, _≤_, _<_}
 use native.Mathlib.Omega.{arith}
@@ -10,35 +10,38 @@ use lib.Dec.{eqb, ltb}
 use lib.ListN.{length}
 use Rattle.copy_row.specs.Columns.{COLUMNS}
 use Rattle.operands.specs.Elements.{firstLarge, ElementRow}
-use Rattle.operands.specs.Answers.{pairFault, pairAnswerOf, carryAnswerOf, PairNumbers, pairNumbers, carryNumbers}
+use Rattle.operands.specs.Answers.{faultOf, pairFault, pairAnswerOf, carryAnswerOf, PairNumbers, pairNumbers, carryNumbers}
+use Rattle.operands.specs.Operands.{conditionsInRow, operandsInRow}
+use Rattle.operands.specs.declared.AddOperand.{AddOperand}
 use Rattle.operands.specs.declared.PairFault.{PairFault}
 use Rattle.operands.specs.declared.PairFault.the-variants as fault
 use Rattle.operands.specs.declared.PairAnswer.{PairAnswer}
 use Rattle.operands.specs.declared.PairAnswer.the-variants as pair
 use Rattle.operands.specs.declared.CarryAnswer.{CarryAnswer}
 use Rattle.operands.specs.declared.CarryAnswer.the-variants as carry
+use Rattle.operands.proofs.Every.{both}
 use Rattle.operands.proofs.Elements.{element-row}
 
 -- the four outcomes of a judgement, in the order of their tests
 module _ (inRow : Bool) (row : List ℕ) where
-  pub outside : inRow ≡ false → fault.OutsideRow ≡ pairFault inRow row
-  unfolding pairFault
+  pub outside : inRow ≡ false → fault.OutsideRow ≡ faultOf inRow row
+  unfolding faultOf
   outside e = simp e
 
   module _ (e : inRow ≡ true) where
-    pub not-row : (length row ≡ COLUMNS → ⊥) → fault.NotRow ≡ pairFault inRow row
-    unfolding pairFault
+    pub not-row : (length row ≡ COLUMNS → ⊥) → fault.NotRow ≡ faultOf inRow row
+    unfolding faultOf
     not-row h = simp (e, ne-eqb (length row) COLUMNS h)
 
     module _ (w : length row ≡ COLUMNS) {place : ℕ} (f : place ≡ firstLarge row) where
-      pub not-element : place < COLUMNS → fault.NotElement place ≡ pairFault inRow row
-      unfolding pairFault
+      pub not-element : place < COLUMNS → fault.NotElement place ≡ faultOf inRow row
+      unfolding faultOf
       not-element h =
           simp (e, eq-eqb (length row) COLUMNS w, lt-ltb (firstLarge row) COLUMNS (subst (λ (x : ℕ). x < COLUMNS) f h))
           (ap fault.NotElement f)
 
-      pub fine : COLUMNS ≤ place → fault.Fine ≡ pairFault inRow row
-      unfolding pairFault
+      pub fine : COLUMNS ≤ place → fault.Fine ≡ faultOf inRow row
+      unfolding faultOf
       fine h =
           simp (e, eq-eqb (length row) COLUMNS w, le-ltb (firstLarge row) COLUMNS (subst (λ (x : ℕ). COLUMNS ≤ x) f h))
 
@@ -53,8 +56,8 @@ number fault.OutsideRow = 12
 number fault.NotRow = 13
 number (fault.NotElement place) = 14
 
-pub is-fine : (inRow : Bool) (row : List ℕ) → pairFault inRow row ≡ fault.Fine → Fine inRow row
-unfolding pairFault number
+pub is-fine : (inRow : Bool) (row : List ℕ) → faultOf inRow row ≡ fault.Fine → Fine inRow row
+unfolding faultOf number
 is-fine false row e = absurd (omega (arith, ap number e))
 is-fine true row e = wide (eqb (length row) COLUMNS) (ltb (firstLarge row) COLUMNS) refl refl e
   where
@@ -68,6 +71,20 @@ is-fine true row e = wide (eqb (length row) COLUMNS) (ltb (firstLarge row) COLUM
           in-row = refl;
           row-is = element-row row (eqb-true (length row) COLUMNS f) (ltb-false (firstLarge row) COLUMNS g);
         }
+
+-- and what conditions and operands are
+pub record PairFine (conditions : List ℕ) (lhs rhs sum : AddOperand) (row : List ℕ) : Type 0 where
+  pub conditions-in : conditionsInRow conditions ≡ true
+  pub operands-in : operandsInRow lhs rhs sum ≡ true
+  pub row-is : ElementRow row
+
+pub pair-fine : (conditions : List ℕ) (lhs rhs sum : AddOperand) (row : List ℕ) → pairFault conditions lhs rhs sum row ≡ fault.Fine
+    → PairFine conditions lhs rhs sum row
+unfolding pairFault
+pair-fine conditions lhs rhs sum row e =
+    let f = is-fine (conditionsInRow conditions && operandsInRow lhs rhs sum) row e in
+    let b = both (conditionsInRow conditions) (operandsInRow lhs rhs sum) (f .in-row) in
+    record { conditions-in = b .0; operands-in = b .1; row-is = f .row-is }
 
 -- an answer by its judgement
 pub pair-case : (f g : PairFault) (low high : ℕ) → f ≡ g → pairAnswerOf g low high ≡ pairAnswerOf f low high

@@ -6,6 +6,7 @@ use crate::TermCell;
 use field::element::INV_SHIFT_32;
 use field::element::P;
 use field::element::add;
+use field::element::is_bit;
 use field::element::mul;
 use field::element::sub;
 ghost use mathlib.Core.Path.{_≡_};
@@ -17,12 +18,19 @@ ghost use Rattle.field.specs.Carry.{carryLow, carryHigh};
 ghost use Rattle.copy_row.specs.Columns.{COLUMNS};
 ghost use Rattle.operands.specs.Elements.{ElementRow};
 ghost use Rattle.operands.specs.Operands.{signedP, termValue, termsValue, lowValue, highValue, termInRow, sumInRow, operandInRow, operandsInRow, conditionsInRow};
-ghost use Rattle.operands.specs.Pairs.{carryLo, carryHi, conditionSum, gated as gatedBy};
+ghost use Rattle.operands.specs.Pairs.{carryLo, carryHi, conditionSum, gated as gatedBy, residueLo, residueHi};
 
 // The carries c0 and c1.
 pub struct CarryPair {
     pub low: u64,
     pub high: u64,
+}
+
+// The two residues of `emit_add_pair` and the high carry.
+pub struct PairValues {
+    pub low: u64,
+    pub high: u64,
+    pub carry: u64,
 }
 
 // A signed number as an element. The complement of a negative n is |n| - 1.
@@ -144,7 +152,7 @@ fn condition_sum(conditions: &[u64], row: &[u64]) -> u64
 }
 
 // x, times the sum of the condition columns if there are any.
-pub fn gated(conditions: &[u64], row: &[u64], x: u64) -> u64
+fn gated(conditions: &[u64], row: &[u64], x: u64) -> u64
     requires { ⌜ (conditionsInRow (now conditions) ≡ true) × ElementRow (now row) × (x < p) ⌝ }
     ensures { λ r. ⌜ (r ≡ gatedBy (now (conditions .entry)) (now (row .entry)) x) × (r < p) ⌝ }
 {
@@ -152,4 +160,27 @@ pub fn gated(conditions: &[u64], row: &[u64], x: u64) -> u64
         return x;
     }
     mul(condition_sum(conditions, row), x)
+}
+
+// The two residues and the high carry of lhs + rhs = sum.
+pub fn pair_values(
+    conditions: &[u64],
+    lhs: AddOperand,
+    rhs: AddOperand,
+    sum: AddOperand,
+    row: &[u64],
+) -> PairValues
+    requires { ⌜ (conditionsInRow (now conditions) ≡ true) × (operandsInRow lhs rhs sum ≡ true) × ElementRow (now row) ⌝ }
+    ensures low { λ r. ⌜ r .low ≡ residueLo (now (conditions .entry)) (now (row .entry)) lhs rhs sum ⌝ }
+    ensures high { λ r. ⌜ r .high ≡ residueHi (now (conditions .entry)) (now (row .entry)) lhs rhs sum ⌝ }
+    ensures carry { λ r. ⌜ r .carry ≡ carryHi (now (row .entry)) lhs rhs sum ⌝ }
+{
+    let c = carries(lhs, rhs, sum, row);
+    let low = gated(conditions, row, is_bit(c.low));
+    let high = gated(conditions, row, is_bit(c.high));
+    PairValues {
+        low,
+        high,
+        carry: c.high,
+    }
 }
