@@ -1,9 +1,10 @@
 -- The answer of `add_pair` and its lent array, case by case, and that nothing is lost in the numbers of an answer. Assumes nothing.
 use mathlib.Core.Path.{_≡_, refl, sym, ap, _∙_}
-use mathlib.Core.Bool.{Bool, true, false, _&&_}
+use mathlib.Core.Bool.{Bool, true, false, cond, _&&_}
 use mathlib.Core.List.{List}
 use Prim.Native.Nat.{ℕ}
-use native.Mathlib.Omega.{arith}
+use lib.Dec.{eqb}
+use Rattle.answer.specs.declared.Answer.{Answer}
 use Rattle.operands.specs.declared.PairFault.{PairFault}
 use Rattle.operands.specs.declared.AddOperand.{AddOperand}
 use Rattle.add_pair.specs.Flat.{flatOperand}
@@ -35,30 +36,20 @@ module _ (lhs rhs sum conditions row : List ℕ) {formed : Bool} (e : formed ≡
         → after ≡ outAfter (addPairAnswer lhs rhs sum conditions row) (pairNumbersOf (flatOperand lhs) (flatOperand rhs) (flatOperand sum) conditions row) out
     answered-out out h = h ∙ (λ i. outAfter (answered i) (pairNumbersOf (x i) (y i) (z i) conditions row) out)
 
--- two answers with the same numbers are the same case with the same place
+-- an answer is read back from its numbers, so two answers with the same numbers are the same case with the same place
+fromNumbers : Answer → AddPairAnswer
+fromNumbers n =
+    cond (eqb (n .number) 0) Written
+    (cond (eqb (n .number) 10) Malformed
+    (cond (eqb (n .number) 12) OutsideRow (cond (eqb (n .number) 13) NotRow (NotElement (n .place)))))
+
+read : (x : AddPairAnswer) → fromNumbers (addPairNumbers x) ≡ x
+unfolding fromNumbers
+read Written = refl
+read Malformed = refl
+read OutsideRow = refl
+read NotRow = refl
+read (NotElement place) = refl
+
 pub addPairNumbers-injective : (x y : AddPairAnswer) → addPairNumbers x ≡ addPairNumbers y → x ≡ y
-addPairNumbers-injective Written Written e = refl
-addPairNumbers-injective Written Malformed e = absurd (omega (arith, ap (λ n. n .number) e))
-addPairNumbers-injective Written OutsideRow e = absurd (omega (arith, ap (λ n. n .number) e))
-addPairNumbers-injective Written NotRow e = absurd (omega (arith, ap (λ n. n .number) e))
-addPairNumbers-injective Written (NotElement k) e = absurd (omega (arith, ap (λ n. n .number) e))
-addPairNumbers-injective Malformed Written e = absurd (omega (arith, ap (λ n. n .number) e))
-addPairNumbers-injective Malformed Malformed e = refl
-addPairNumbers-injective Malformed OutsideRow e = absurd (omega (arith, ap (λ n. n .number) e))
-addPairNumbers-injective Malformed NotRow e = absurd (omega (arith, ap (λ n. n .number) e))
-addPairNumbers-injective Malformed (NotElement k) e = absurd (omega (arith, ap (λ n. n .number) e))
-addPairNumbers-injective OutsideRow Written e = absurd (omega (arith, ap (λ n. n .number) e))
-addPairNumbers-injective OutsideRow Malformed e = absurd (omega (arith, ap (λ n. n .number) e))
-addPairNumbers-injective OutsideRow OutsideRow e = refl
-addPairNumbers-injective OutsideRow NotRow e = absurd (omega (arith, ap (λ n. n .number) e))
-addPairNumbers-injective OutsideRow (NotElement k) e = absurd (omega (arith, ap (λ n. n .number) e))
-addPairNumbers-injective NotRow Written e = absurd (omega (arith, ap (λ n. n .number) e))
-addPairNumbers-injective NotRow Malformed e = absurd (omega (arith, ap (λ n. n .number) e))
-addPairNumbers-injective NotRow OutsideRow e = absurd (omega (arith, ap (λ n. n .number) e))
-addPairNumbers-injective NotRow NotRow e = refl
-addPairNumbers-injective NotRow (NotElement k) e = absurd (omega (arith, ap (λ n. n .number) e))
-addPairNumbers-injective (NotElement j) Written e = absurd (omega (arith, ap (λ n. n .number) e))
-addPairNumbers-injective (NotElement j) Malformed e = absurd (omega (arith, ap (λ n. n .number) e))
-addPairNumbers-injective (NotElement j) OutsideRow e = absurd (omega (arith, ap (λ n. n .number) e))
-addPairNumbers-injective (NotElement j) NotRow e = absurd (omega (arith, ap (λ n. n .number) e))
-addPairNumbers-injective (NotElement j) (NotElement k) e = ap NotElement (ap (λ n. n .place) e)
+addPairNumbers-injective x y e = sym (read x) ∙ ap fromNumbers e ∙ read y

@@ -7,8 +7,9 @@ use mathlib.Core.Bool.{Bool, true, false, cond, _&&_}
 use mathlib.Core.List.{List, [], _∷_}
 use lib.Dec.{ltb, leb, eqb}
 use lib.IntN.{ℤ, pos, negsuc}
-use lib.ListN.{length, replicate}
+use lib.ListN.{length}
 use Rattle.copy_row.specs.Columns.{at}
+use Rattle.operands.specs.Constructors.{dword}
 use Rattle.operands.specs.declared.AddLinearTerm.{AddLinearTerm}
 use Rattle.operands.specs.declared.AddLinearTerm.the-variants.{Constant, Column}
 use Rattle.operands.specs.declared.TermCell.{TermCell}
@@ -80,15 +81,11 @@ fourTerms l i n =
     ∷ record { term = termOf l i n 3 }
     ∷ []
 
--- an operand of two columns has no terms
-unfoldable pub noTerms : List TermCell
-noTerms = replicate 4 (record { term = Constant (pos 0) })
-
 -- the operand of a list, by the list's form
 unfoldable pub operandOf : List ℕ → FlatForm → AddOperand
-operandOf l (form.Words c) = record { kind = kind.Words c; low = noTerms; high = noTerms }
+operandOf l (form.Words c) = dword c
 operandOf l (form.Sums m n i) = record { kind = kind.Sums m n; low = fourTerms l 2 m; high = fourTerms l i n }
-operandOf l form.Malformed = record { kind = kind.Words 0; low = noTerms; high = noTerms }
+operandOf l form.Malformed = dword 0
 
 abbrev pub flatOperand : List ℕ → AddOperand
 flatOperand l = operandOf l (flatForm l)

@@ -8,8 +8,9 @@ use operands::OperandKind;
 use operands::TermCell;
 ghost use mathlib.Core.Path.{_≡_};
 ghost use Rattle.copy_row.specs.Columns.{at};
+ghost use Rattle.operands.specs.Constructors.{dword};
 ghost use Rattle.add_pair.specs.declared.Walk.the-variants.{At};
-ghost use Rattle.add_pair.specs.Flat.{afterTerm, afterTerms, afterSum, isEnd, sumsForm, flatForm, signedOf, termFrom, termAfter, termOf, fourTerms, noTerms, operandOf};
+ghost use Rattle.add_pair.specs.Flat.{afterTerm, afterTerms, afterSum, isEnd, sumsForm, flatForm, signedOf, termFrom, termAfter, termOf, fourTerms, operandOf};
 ghost use Rattle.add_pair.specs.Answers.{isForm};
 
 // The number at index i, 0 past the end.
@@ -197,13 +198,18 @@ fn four_terms(list: &[u64], i: usize, n: u64) -> [TermCell; 4]
     [a, b, c, d]
 }
 
-// An operand of two columns has no terms.
-fn no_terms() -> [TermCell; 4]
-    ensures { λ r. ⌜ r ≡ noTerms ⌝ }
+// Two neighbouring columns: an operand without terms.
+fn words_operand(column: usize) -> AddOperand
+    ensures { λ r. ⌜ r ≡ dword column ⌝ }
 {
-    [TermCell {
+    let none = [TermCell {
         term: AddLinearTerm::Constant(0),
-    }; 4]
+    }; 4];
+    AddOperand {
+        kind: OperandKind::Words { column },
+        low: none,
+        high: none,
+    }
 }
 
 // The operand of a list, by the list's form.
@@ -211,16 +217,7 @@ pub fn operand_of(list: &[u64], form: FlatForm) -> AddOperand
     ensures { λ r. ⌜ r ≡ operandOf (now (list .entry)) form ⌝ }
 {
     match form {
-        FlatForm::Words { column } => {
-            let none = no_terms();
-            AddOperand {
-                kind: OperandKind::Words {
-                    column: column as usize,
-                },
-                low: none,
-                high: none,
-            }
-        }
+        FlatForm::Words { column } => words_operand(column as usize),
         FlatForm::Sums { low, high, start } => {
             let low_terms = four_terms(list, 2, low);
             let high_terms = four_terms(list, start, high);
@@ -233,13 +230,6 @@ pub fn operand_of(list: &[u64], form: FlatForm) -> AddOperand
                 high: high_terms,
             }
         }
-        FlatForm::Malformed => {
-            let none = no_terms();
-            AddOperand {
-                kind: OperandKind::Words { column: 0 },
-                low: none,
-                high: none,
-            }
-        }
+        FlatForm::Malformed => words_operand(0),
     }
 }

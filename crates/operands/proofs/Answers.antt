@@ -8,10 +8,12 @@ use native.Mathlib.Omega.{arith}
 use borrow.Author.Tests.{eq-eqb, ne-eqb, lt-ltb, le-ltb, eqb-true, ltb-false}
 use lib.Dec.{eqb, ltb}
 use lib.ListN.{length}
+use Rattle.answer.specs.declared.Answer.{Answer}
 use Rattle.copy_row.specs.Columns.{COLUMNS}
 use Rattle.operands.specs.Elements.{firstLarge, ElementRow}
-use Rattle.operands.specs.Answers.{faultOf, pairFault, pairAnswerOf, carryAnswerOf, PairNumbers, pairNumbers, carryNumbers}
+use Rattle.operands.specs.Answers.{faultOf, pairFault, pairAnswerOf, pairAnswer, carryAnswerOf, carryAnswer, PairNumbers, pairNumbers, carryNumbers}
 use Rattle.operands.specs.Operands.{conditionsInRow, operandsInRow}
+use Rattle.operands.specs.Pairs.{carryHi, residueLo, residueHi}
 use Rattle.operands.specs.declared.AddOperand.{AddOperand}
 use Rattle.operands.specs.declared.PairFault.{PairFault}
 use Rattle.operands.specs.declared.PairFault.the-variants as fault
@@ -20,7 +22,7 @@ use Rattle.operands.specs.declared.PairAnswer.the-variants as pair
 use Rattle.operands.specs.declared.CarryAnswer.{CarryAnswer}
 use Rattle.operands.specs.declared.CarryAnswer.the-variants as carry
 use Rattle.operands.proofs.Every.{both}
-use Rattle.operands.proofs.Elements.{element-row}
+use Rattle.operands.proofs.Elements.{element-row, none-large}
 
 -- the four outcomes of a judgement, in the order of their tests
 module _ (inRow : Bool) (row : List ℕ) where
@@ -93,21 +95,50 @@ pair-case f g low high e = ap (λ x. pairAnswerOf x low high) (sym e)
 pub carry-case : (f g : PairFault) (c : ℕ) → f ≡ g → carryAnswerOf g c ≡ carryAnswerOf f c
 carry-case f g c e = ap (λ x. carryAnswerOf x c) (sym e)
 
--- two answers with the same numbers are the same case with the same values
+-- what is answered where nothing is refused
+module _ (lhs rhs sum : AddOperand) (row : List ℕ) (r : ElementRow row) (o : operandsInRow lhs rhs sum ≡ true) where
+  pub carry-accepted : carryAnswer lhs rhs sum row ≡ carry.Carry (carryHi row lhs rhs sum)
+  unfolding carryAnswer carryAnswerOf
+  carry-accepted =
+      sym (carry-case _ _ _ (sym (fine (operandsInRow lhs rhs sum) row o (r .wide) refl (none-large row r))))
+
+  pub pair-accepted : (conditions : List ℕ) → conditionsInRow conditions ≡ true
+      → pairAnswer conditions lhs rhs sum row
+      ≡ pair.Residues (residueLo conditions row lhs rhs sum) (residueHi conditions row lhs rhs sum)
+  unfolding pairAnswer pairAnswerOf pairFault
+  pair-accepted conditions e =
+      sym
+      (pair-case _ _ _ _
+      (sym
+      (fine (conditionsInRow conditions && operandsInRow lhs rhs sum) row (λ i. e i && o i) (r .wide) refl (none-large row r))))
+
+-- an answer is read back from its numbers, so two answers with the same numbers are the same case with the same values
+fromPairNumbers : PairNumbers → PairAnswer
+fromPairNumbers n =
+    cond (eqb (n .number) 0) (pair.Residues (n .low) (n .high))
+    (cond (eqb (n .number) 12) pair.OutsideRow (cond (eqb (n .number) 13) pair.NotRow (pair.NotElement (n .place))))
+
+pair-read : (x : PairAnswer) → fromPairNumbers (pairNumbers x) ≡ x
+unfolding fromPairNumbers
+pair-read (pair.Residues low high) = refl
+pair-read pair.OutsideRow = refl
+pair-read pair.NotRow = refl
+pair-read (pair.NotElement place) = refl
+
 pub pairNumbers-injective : (x y : PairAnswer) → pairNumbers x ≡ pairNumbers y → x ≡ y
-pairNumbers-injective (pair.Residues a b) (pair.Residues c d) e = λ i. pair.Residues (e i .low) (e i .high)
-pairNumbers-injective (pair.Residues a b) pair.OutsideRow e = absurd (omega (arith, ap (λ n. n .number) e))
-pairNumbers-injective (pair.Residues a b) pair.NotRow e = absurd (omega (arith, ap (λ n. n .number) e))
-pairNumbers-injective (pair.Residues a b) (pair.NotElement k) e = absurd (omega (arith, ap (λ n. n .number) e))
-pairNumbers-injective pair.OutsideRow (pair.Residues c d) e = absurd (omega (arith, ap (λ n. n .number) e))
-pairNumbers-injective pair.OutsideRow pair.OutsideRow e = refl
-pairNumbers-injective pair.OutsideRow pair.NotRow e = absurd (omega (arith, ap (λ n. n .number) e))
-pairNumbers-injective pair.OutsideRow (pair.NotElement k) e = absurd (omega (arith, ap (λ n. n .number) e))
-pairNumbers-injective pair.NotRow (pair.Residues c d) e = absurd (omega (arith, ap (λ n. n .number) e))
-pairNumbers-injective pair.NotRow pair.OutsideRow e = absurd (omega (arith, ap (λ n. n .number) e))
-pairNumbers-injective pair.NotRow pair.NotRow e = refl
-pairNumbers-injective pair.NotRow (pair.NotElement k) e = absurd (omega (arith, ap (λ n. n .number) e))
-pairNumbers-injective (pair.NotElement j) (pair.Residues c d) e = absurd (omega (arith, ap (λ n. n .number) e))
-pairNumbers-injective (pair.NotElement j) pair.OutsideRow e = absurd (omega (arith, ap (λ n. n .number) e))
-pairNumbers-injective (pair.NotElement j) pair.NotRow e = absurd (omega (arith, ap (λ n. n .number) e))
-pairNumbers-injective (pair.NotElement j) (pair.NotElement k) e = ap pair.NotElement (ap (λ n. n .place) e)
+pairNumbers-injective x y e = sym (pair-read x) ∙ ap fromPairNumbers e ∙ pair-read y
+
+fromCarryNumbers : Answer → CarryAnswer
+fromCarryNumbers n =
+    cond (eqb (n .number) 0) (carry.Carry (n .value))
+    (cond (eqb (n .number) 12) carry.OutsideRow (cond (eqb (n .number) 13) carry.NotRow (carry.NotElement (n .place))))
+
+carry-read : (x : CarryAnswer) → fromCarryNumbers (carryNumbers x) ≡ x
+unfolding fromCarryNumbers
+carry-read (carry.Carry c) = refl
+carry-read carry.OutsideRow = refl
+carry-read carry.NotRow = refl
+carry-read (carry.NotElement place) = refl
+
+pub carryNumbers-injective : (x y : CarryAnswer) → carryNumbers x ≡ carryNumbers y → x ≡ y
+carryNumbers-injective x y e = sym (carry-read x) ∙ ap fromCarryNumbers e ∙ carry-read y

@@ -10,7 +10,7 @@ use lib.Dec.{leb}
 use lib.ListN.{length, List·getD-eq-default}
 use Rattle.field.specs.Field.{p}
 use Rattle.records.specs.Lists.{first}
-use Rattle.records.proofs.First.{first-none, first-hit, first-miss, first-end}
+use Rattle.records.proofs.First.{first-none, first-all, first-hit, first-miss, first-end}
 use Rattle.copy_row.specs.Columns.{at, COLUMNS}
 use Rattle.operands.specs.Elements.{firstLarge, ElementRow}
 
@@ -50,3 +50,12 @@ elements row h c = below (decLt c (length row))
 
 pub element-row : (row : List ℕ) → length row ≡ COLUMNS → COLUMNS ≤ firstLarge row → ElementRow row
 element-row row w h = record { wide = w; elements = elements row (omega arith) }
+
+-- and the search runs to the end of a row of elements
+pub none-large : (row : List ℕ) → ElementRow row → COLUMNS ≤ firstLarge row
+unfolding firstLarge
+none-large row e =
+    let all : first (large row) 0 (length row) ≡ 0 + length row =
+        first-all (large row) 0 (length row) (λ c a b. lt-leb p (at row c) (e .elements c))
+    in
+    omega (arith, e .wide)

@@ -5,3 +5,4 @@ pub mod Elements
 pub mod Operands
 pub mod Pairs
 pub mod Answers
+pub mod Constructors

@@ -9,9 +9,7 @@ use Rattle.add_pair.proofs.flat.operand_of.Tie as tie
 
 returns : tie.Need-returns
 unfolding operandOf
-returns c =
-    (λ j. record { kind = kind.Words (c .before .before .form .given .0 .0); low = c .no-terms .ensures j; high = c .no-terms .ensures j })
-    ∙ sym (ap (operandOf _) (c .before .before .form .given .1))
+returns c = c .words-operand .ensures ∙ sym (ap (operandOf _) (c .before .before .form .given .1))
 
 returns-2 : tie.Need-returns-2
 unfolding operandOf
@@ -23,9 +21,7 @@ returns-2 c =
 
 returns-3 : tie.Need-returns-3
 unfolding operandOf
-returns-3 c =
-    (λ j. record { kind = kind.Words 0; low = c .no-terms2 .ensures j; high = c .no-terms2 .ensures j })
-    ∙ sym (ap (operandOf _) (c .before .enum-told .given .1))
+returns-3 c = c .words-operand2 .ensures ∙ sym (ap (operandOf _) (c .before .enum-told .given .1))
 
 pub operand-of-spec : {M : Type 1} → statement M
 operand-of-spec =

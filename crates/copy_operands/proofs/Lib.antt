@@ -1,0 +1,3 @@
+pub mod Values
+pub mod Borrow
+pub mod CopyOperands
