@@ -1,3 +1,5 @@
 pub mod Steps
 pub mod ReadRow
 pub mod RowIff
+pub mod Instances
+pub mod Theorems

@@ -48,3 +48,14 @@ pub record CallRow (gap : ℕ) (o : Op) (row : List ℕ) : Type 0 where
 -- the exception has no instance, so a call's row is plainly its table row
 abbrev pub CallRowIs : Type 0
 CallRowIs = (gap : ℕ) (o : Op) (row : List ℕ) → CallRow gap o row → row ≡ tableRow o
+
+-- the exception has no instance since each row in range has a residue that depends on DST_RES: 16 where IS_WRITE is not 0, else 18
+abbrev pub NeverFree : Type 0
+NeverFree =
+    (gap : ℕ) (row : List ℕ) → length row ≡ COLUMNS → InRange row → DependsOnDstRes gap row 16 ⊎ DependsOnDstRes gap row 18
+
+-- and where a row passes, no other filling of the four halves does
+abbrev pub OneFilling : Type 0
+OneFilling =
+    (gap : ℕ) → gap < 2 ^ 32 → (row other : List ℕ) → length row ≡ COLUMNS → length other ≡ COLUMNS → BesidesDstRes row other
+    → rowFault gap row ≡ Fine → rowFault gap other ≡ Fine → row ≡ other

@@ -6,7 +6,7 @@ use Prim.Native.Nat.{ℕ, _+_, _-_, _*_, _%_, _<_}
 use native.Mathlib.Nat.{mod-add-mod, add-mod-mod}
 use native.Mathlib.Omega.{arith}
 use Rattle.field.specs.Field.{p, addP, subP, mulP}
-use Rattle.field.specs.Carry.{carryP, carryLow, carryHigh}
+use Rattle.field.specs.Carries.{carryP, carryLow, carryHigh}
 use Rattle.field.specs.Constants.{inv16, inv32, inv48, inv64, negInv32, negInv64, negSevenInv64, eightInv64}
 use Rattle.field.proofs.Laws.{mulP-comm, mulP-assoc, addP-mulP, zero-mulP, neg-mulP}
 use Rattle.copy_row.specs.Columns.{at, COUNT, COUNT-DECR, SINGLE}

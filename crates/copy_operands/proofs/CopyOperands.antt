@@ -7,7 +7,7 @@ use Prim.Native.Nat.{ℕ, _+_, _^_, _<_}
 use native.Mathlib.Omega.{arith}
 use lib.IntN.{pos}
 use Rattle.field.specs.Field.{bitP, mulP, subP}
-use Rattle.field.specs.Carry.{carryLow, carryHigh}
+use Rattle.field.specs.Carries.{carryLow, carryHigh}
 use Rattle.copy_row.specs.Columns.{at, SRC, SRC-INCR, DST, DST-INCR, COUNT, COUNT-DECR, DST-RES, IS-SET, IS-WRITE, MU}
 use Rattle.copy_residues.specs.Residues.{residue, incrLow, incrHigh, decrLow, decrHigh, resLow, resHigh, gapLow, gapHigh, gatedBit, noWrap, gapNoWrap, borrow}
 use Rattle.operands.specs.Elements.{ElementRow}

@@ -6,7 +6,7 @@ use mathlib.Core.List.{List, [], _∷_}
 use lib.Dec.{ltb}
 use lib.ListN.{getD}
 use Rattle.field.specs.Field.{p, addP, subP, mulP, bitP}
-use Rattle.field.specs.Carry.{carryLow, carryHigh}
+use Rattle.field.specs.Carries.{carryLow, carryHigh}
 use Rattle.field.specs.Constants.{inv16, inv32, inv48, inv64, negInv32, negInv64, negSevenInv64, eightInv64}
 use Rattle.copy_row.specs.Columns.{at, SRC, DST, COUNT, COUNT-DECR, DST-RES, FIRST, END, SINGLE, IS-SET, IS-WRITE, FIRST-WRITE, MU, MU-COM, MU-COM-WIDE}
 

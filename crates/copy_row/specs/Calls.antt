@@ -1,9 +1,10 @@
 -- Calls, what one row moves of them, and operation records. An operation record holds the call as it remains at its row: src and dst
 -- where this row starts, count what is left with this row's bytes. Document 01: "An operation record is 16 numbers: timestamp, src,
 -- dst, count (64 bits), width (0 to 255), first, end (0 or 1), kind (0 Copy, 1 Set, 2 Write), eight value bytes". Assumes nothing.
-use Prim.Native.Nat.{ℕ, _+_, _-_}
-use mathlib.Core.List.{List, [], _∷_, _++_}
+use Prim.Native.Nat.{ℕ, _+_}
+use mathlib.Core.List.{List, [], _∷_}
 use Rattle.copy_row.specs.Columns.{at}
+use Rattle.copy_row.specs.declared.CopyOperation.{CopyOperation}
 use Rattle.copy_row.specs.declared.Functionality.{Functionality}
 use Rattle.copy_row.specs.declared.Functionality.the-variants.{Copy, Set, Write}
 
@@ -58,4 +59,14 @@ opOf r =
       piece = record { width = at r 4; value = eightAt r 8 };
       first = at r 5;
       end = at r 6;
+    }
+
+-- the operation record that the code's struct holds
+abbrev pub operation : CopyOperation → Op
+operation o =
+    record {
+      call = record { kind = o .kind; stamp = o .timestamp; src = o .src; dst = o .dst; count = o .count };
+      piece = record { width = o .width; value = o .value };
+      first = o .first;
+      end = o .end;
     }

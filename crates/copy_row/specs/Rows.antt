@@ -1,12 +1,12 @@
 -- The copy row of an operation record. Document 01: "INCR, DECR and RES are sums taken modulo 2^64, as the Rust's wrapping calls",
 -- "Padding: 8 in COUNT_0, SRC_INCR_0, DST_INCR_0, else 0". Assumes nothing.
-use Prim.Native.Nat.{ℕ, _*_}
+use Prim.Native.Nat.{ℕ}
 use mathlib.Core.Bool.{Bool, cond, not, _&&_}
 use mathlib.Core.List.{List, [], _∷_, _++_}
 use lib.Dec.{eqb}
 use lib.ListN.{replicate}
 use Rattle.words.specs.Words.{words, halves, wrapAdd, wrapSub}
-use Rattle.copy_row.specs.Calls.{Call, Piece, Op, eightAt}
+use Rattle.copy_row.specs.Calls.{Call, Op, eightAt}
 
 -- 1 where b holds, else 0
 abbrev pub bit : Bool → ℕ

@@ -1,8 +1,8 @@
 -- The copy table: 16-number operation records to 41-number rows, at most `limit` records (65,536 for the office). Assumes nothing.
 use Prim.Native.Nat.{ℕ, _-_, _^_}
 use mathlib.Core.Bool.{Bool}
-use mathlib.Core.List.{List, [], _∷_, _++_}
-use lib.ListN.{length, replicate}
+use mathlib.Core.List.{List, _∷_, _++_}
+use lib.ListN.{replicate}
 use Rattle.records.specs.Records.{within, recordCount, firstBad}
 use Rattle.records.specs.Table.{tableAnswer, tableAfter}
 use Rattle.records.specs.declared.TableAnswer.{TableAnswer}

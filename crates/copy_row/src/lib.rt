@@ -1,4 +1,14 @@
-// The copy table.
+// The copy table: operation records in a lent list become rows in a lent table. Document 01: "Copy row (`generate_copy_trace`)".
+// Assumes nothing.
+pub mod cols;
+pub mod row;
+pub mod trace;
+
+ghost use mathlib.Core.Path.{_≡_};
+ghost use lib.ListN.{length};
+ghost use Rattle.records.specs.Table.{tableNumbers};
+ghost use Rattle.copy_row.specs.Trace.{copyAnswer, copyAfter};
+use records::TableAnswer;
 
 // Which functionality a row is running: document 01's kind.
 pub enum Functionality {
@@ -8,4 +18,28 @@ pub enum Functionality {
     Set,
     // write: reads only, into the commit domain.
     Write,
+}
+
+// An operation record: one row's piece of a call, with the call as it remains at this row. The kind is its number.
+pub struct CopyOperation {
+    pub timestamp: u64,
+    pub src: u64,
+    // For a Write, the index in the commit domain.
+    pub dst: u64,
+    // What is left, this row's bytes among it.
+    pub count: u64,
+    pub width: u64,
+    pub first: u64,
+    pub end: u64,
+    pub kind: u64,
+    pub value: [u64; 8],
+}
+
+// Makes the copy table of at most 65,536 operation records in `table`, 41 numbers to a row: the rows of the records in their order, then
+// padding. Refuses with 8, 10 and 9, in this order, and then writes nothing.
+pub fn generate_copy_trace(ops: &[u64], table: &mut [u64]) -> TableAnswer
+    ensures answer { λ r. ⌜ tableNumbers 8 r ≡ tableNumbers 8 (copyAnswer 65536 (now (ops .entry)) (length (now (table .entry)))) ⌝ }
+    ensures table { λ r. ⌜ now (table .exit) ≡ copyAfter (now (ops .entry)) (copyAnswer 65536 (now (ops .entry)) (length (now (table .entry)))) (now (table .entry)) ⌝ }
+{
+    trace::make(65536, ops, table)
 }

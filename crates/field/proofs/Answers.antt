@@ -1,10 +1,9 @@
 -- The three answers of a field operation (document 01's refusal 14: "place is the index of the lowest such number"), and that nothing is
 -- lost in the numbers of an answer. Assumes nothing.
-use mathlib.Core.Path.{_≡_, refl, ap}
+use mathlib.Core.Path.{_≡_, ap}
 use Prim.Native.Nat.{ℕ, _<_, _≤_}
 use native.Mathlib.Omega.{arith}
 use borrow.Author.Tests.{lt-ltb, le-ltb}
-use Rattle.answer.specs.declared.Answer.{Answer}
 use Rattle.field.specs.Field.{p}
 use Rattle.field.specs.Answers.{fieldAnswer, fieldNumbers}
 use Rattle.field.specs.declared.FieldAnswer.{FieldAnswer}

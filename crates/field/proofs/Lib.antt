@@ -1,3 +1,10 @@
 pub mod Laws
-pub mod Reduction
+pub mod Prime
+pub mod Bits
+pub mod Carry
+pub mod Theorems
+pub mod Constants
 pub mod Answers
+pub mod Reduction
+pub mod Pigeon
+pub mod Proth

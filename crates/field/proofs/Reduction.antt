@@ -8,8 +8,21 @@ use lib.Arith.{digits-mod}
 use Rattle.field.specs.Field.{p}
 
 -- a product of two words leaves room for two words more
-pub word-product : (x y : ℕ) → x ≤ 0xffff_ffff → y ≤ 0xffff_ffff → x * y ≤ 0xffff_fffe_0000_0001
+word-product : (x y : ℕ) → x ≤ 0xffff_ffff → y ≤ 0xffff_ffff → x * y ≤ 0xffff_fffe_0000_0001
 word-product x y h k = mul-le-mul h k
+
+-- the products of the halves of two numbers, low with low, high with low and so on
+pub low-low : (a b : ℕ) → a % 2 ^ 32 * (b % 2 ^ 32) ≤ 0xffff_fffe_0000_0001
+low-low a b = word-product (a % 2 ^ 32) (b % 2 ^ 32) (omega arith) (omega arith)
+
+pub high-low : (a b : ℕ) → a < 2 ^ 64 → a / 2 ^ 32 * (b % 2 ^ 32) ≤ 0xffff_fffe_0000_0001
+high-low a b h = word-product (a / 2 ^ 32) (b % 2 ^ 32) (omega arith) (omega arith)
+
+pub low-high : (a b : ℕ) → b < 2 ^ 64 → a % 2 ^ 32 * (b / 2 ^ 32) ≤ 0xffff_fffe_0000_0001
+low-high a b h = word-product (a % 2 ^ 32) (b / 2 ^ 32) (omega arith) (omega arith)
+
+pub high-high : (a b : ℕ) → a < 2 ^ 64 → b < 2 ^ 64 → a / 2 ^ 32 * (b / 2 ^ 32) ≤ 0xffff_fffe_0000_0001
+high-high a b h k = word-product (a / 2 ^ 32) (b / 2 ^ 32) (omega arith) (omega arith)
 
 -- a product by its halves
 pub halves : (a b : ℕ)
@@ -17,6 +30,15 @@ pub halves : (a b : ℕ)
     ≡ a / 2 ^ 32 * (b / 2 ^ 32) * 2 ^ 64 + a / 2 ^ 32 * (b % 2 ^ 32) * 2 ^ 32 + a % 2 ^ 32 * (b / 2 ^ 32) * 2 ^ 32
     + a % 2 ^ 32 * (b % 2 ^ 32)
 halves a b = (λ i. sym (div-add-mod' a (2 ^ 32)) i * sym (div-add-mod' b (2 ^ 32)) i) ∙ omega arith
+
+-- the upper and the lower 64 bits of a product, from the products of its halves: hh of the high ones, hl and lh the mixed ones, ll the low
+pub upper : (hh hl lh ll n : ℕ) → n ≡ hh * 2 ^ 64 + hl * 2 ^ 32 + lh * 2 ^ 32 + ll
+    → hh + (hl + ll / 2 ^ 32) / 2 ^ 32 + (lh + (hl + ll / 2 ^ 32) % 2 ^ 32) / 2 ^ 32 ≡ n / 2 ^ 64
+upper hh hl lh ll n e = omega arith
+
+pub lower : (hh hl lh ll m n : ℕ) → n ≡ hh * 2 ^ 64 + hl * 2 ^ 32 + lh * 2 ^ 32 + ll → m ≡ (lh + hl) % 2 ^ 64
+    → (m * 2 ^ 32 % 2 ^ 64 + ll) % 2 ^ 64 ≡ n % 2 ^ 64
+lower hh hl lh ll m n e f = omega arith
 
 -- 2^64 is p + (2^32 - 1), and 2^96 is (2^32 + 1) * p - 1
 fold : (top m low : ℕ) → (top * 2 ^ 32 + m) * 2 ^ 64 + (low + top) ≡ (top * 0x1_0000_0001 + m) * p + (low + m * 0xffff_ffff)
@@ -50,6 +72,13 @@ middle-below hi = omega arith
 
 pub middle-room : (hi : ℕ) → hi % 2 ^ 32 * 0xffff_ffff + 2 ^ 64 < p + p
 middle-room hi = omega arith
+
+-- the second sum as it is, and with p taken away
+pub kept : (low middle : ℕ) → low + middle + 0 * p ≡ low + middle
+kept low middle = omega arith
+
+pub kept-below : (low middle : ℕ) → middle ≤ p → low < p - middle → low + middle < p
+kept-below low middle h k = omega arith
 
 pub taken : (low middle : ℕ) → middle ≤ p → p - middle ≤ low → low - (p - middle) + 1 * p ≡ low + middle
 taken low middle h k = omega arith

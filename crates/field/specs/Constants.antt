@@ -2,7 +2,7 @@
 -- compute; that each is the product it is named for is `BorrowConstants`, shown in proofs/. Assumes nothing.
 use mathlib.Core.Path.{_≡_}
 use Prim.Native.Nat.{ℕ, _^_}
-use Rattle.field.specs.Field.{p, addP, mulP}
+use Rattle.field.specs.Field.{addP, mulP}
 
 -- 2^-32, `INV_SHIFT_32` of the templates
 abbrev pub inv32 : ℕ

@@ -1,4 +1,5 @@
 pub mod Field
 pub mod Constants
-pub mod Carry
+pub mod Carries
+pub mod Theorems
 pub mod Answers

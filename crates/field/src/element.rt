@@ -1,8 +1,11 @@
 // Internal to the workspace, not open to callers: elements as numbers below p = 2^64 - 2^32 + 1, and their sums, differences and
 // products (document 01: "Add, subtract, multiply modulo p"). Products by halves of 32 bits, since there are no 128-bit numbers here.
 // Assumes nothing.
+use std::num::wrapping_add_u64;
+ghost use mathlib.Core.List.{[], _∷_};
 ghost use mathlib.Core.Path.{_≡_};
-ghost use Prim.Native.Nat.{_+_, _*_, _%_, _^_, _<_};
+ghost use Prim.Native.Nat.{_+_, _*_, _/_, _%_, _^_, _<_};
+ghost use Rattle.field.specs.Constants.{inv32, inv16, inv64, inv48, negInv32, negInv64, negSevenInv64, eightInv64};
 ghost use Rattle.field.specs.Field.{p, addP, subP, mulP, bitP};
 
 pub const P: u64 = 18446744069414584321;
@@ -25,6 +28,23 @@ pub const NEG_INV_2_64: u64 = 4294967296;
 pub const NEG_SEVEN_INV_2_64: u64 = 30064771072;
 
 pub const EIGHT_INV_2_64: u64 = 18446744035054845953;
+
+// The constants above are the numbers of specs/Constants, in this order.
+pub fn constants() -> [u64; 9]
+    ensures { λ r. ⌜ r ≡ inv32 ∷ inv32 ∷ inv16 ∷ inv64 ∷ inv48 ∷ negInv32 ∷ negInv64 ∷ negSevenInv64 ∷ eightInv64 ∷ [] ⌝ }
+{
+    [
+        INV_SHIFT_32,
+        INV_2_32,
+        INV_2_16,
+        INV_2_64,
+        INV_2_48,
+        NEG_INV_2_32,
+        NEG_INV_2_64,
+        NEG_SEVEN_INV_2_64,
+        EIGHT_INV_2_64,
+    ]
+}
 
 // a + b, with no sum above 2^64 on the way.
 pub fn add(a: u64, b: u64) -> u64
@@ -54,20 +74,37 @@ pub fn reduce(hi: u64, lo: u64) -> u64
     if low < room { low + middle } else { low - room }
 }
 
-// a * b, for any two numbers. The 128 bits of the product come from four products of halves.
-pub fn mul(a: u64, b: u64) -> u64
-    ensures { λ r. ⌜ (r ≡ mulP a b) × (r < p) ⌝ }
+// The upper 64 bits of a * b, by products of halves. The compiler knows this shape and that of `low` and makes of both one machine
+// multiplication.
+fn high(a: u64, b: u64) -> u64
+    ensures { λ r. ⌜ r ≡ a * b / 2 ^ 64 ⌝ }
 {
     let a0 = a % 0x1_0000_0000;
     let a1 = a / 0x1_0000_0000;
     let b0 = b % 0x1_0000_0000;
     let b1 = b / 0x1_0000_0000;
-    let w0 = a0 * b0;
-    let t = a1 * b0 + w0 / 0x1_0000_0000;
-    let w1 = a0 * b1 + t % 0x1_0000_0000;
-    let hi = a1 * b1 + t / 0x1_0000_0000 + w1 / 0x1_0000_0000;
-    let lo = w1 % 0x1_0000_0000 * 0x1_0000_0000 + w0 % 0x1_0000_0000;
-    reduce(hi, lo)
+    let t = a1 * b0 + a0 * b0 / 0x1_0000_0000;
+    let w = a0 * b1 + t % 0x1_0000_0000;
+    a1 * b1 + t / 0x1_0000_0000 + w / 0x1_0000_0000
+}
+
+// The lower 64 bits of a * b: the product of the high halves has no part in them.
+fn low(a: u64, b: u64) -> u64
+    ensures { λ r. ⌜ r ≡ a * b % 2 ^ 64 ⌝ }
+{
+    let a0 = a % 0x1_0000_0000;
+    let a1 = a / 0x1_0000_0000;
+    let b0 = b % 0x1_0000_0000;
+    let b1 = b / 0x1_0000_0000;
+    let middle = wrapping_add_u64(a0 * b1, a1 * b0);
+    wrapping_add_u64(middle << 32, a0 * b0)
+}
+
+// a * b, for any two numbers.
+pub fn mul(a: u64, b: u64) -> u64
+    ensures { λ r. ⌜ (r ≡ mulP a b) × (r < p) ⌝ }
+{
+    reduce(high(a, b), low(a, b))
 }
 
 // a * b, at once where a is 0: most gates of a right row are shut.

@@ -3,3 +3,4 @@ pub mod Flat
 pub mod First
 pub mod Records
 pub mod RowCount
+pub mod Table

@@ -1,12 +1,12 @@
 -- Laws of records of w numbers: where record k lies, what `within` says of each number, and what a loop needs that looks for
 -- `firstAbove` or `firstBad`. Assumes nothing.
-use mathlib.Core.Path.{_≡_, refl, sym, ap, _∙_}
-use mathlib.Core.Bool.{Bool, true, false, not, _&&_, and-eq-true-iff}
+use mathlib.Core.Path.{_≡_, sym, ap, _∙_}
+use mathlib.Core.Bool.{Bool, true, false, not, and-eq-true-iff}
 use mathlib.Core.List.{List}
 use Prim.Native.Nat.{ℕ, _+_, _-_, _*_, _/_, _≤_, _<_}
 use native.Mathlib.Nat.{mul-comm, mul-suc, le-div-iff-mul-le, mul-add-div, div-eq-of-lt, sub-zero, add-zero, zero-add}
 use native.Mathlib.Omega.{arith}
-use borrow.Author.Tests.{eq-eqb, eqb-true, leb-true, le-leb, lt-leb, ne-eqb, not-true, not-false}
+use borrow.Author.Tests.{eq-eqb, eqb-true, leb-true, le-leb, lt-leb, ne-eqb, not-false}
 use lib.Dec.{eqb, leb}
 use lib.ListN.{length, take, drop, getD, length-take, length-drop}
 use lib.Seq.{getD-take, getD-drop}
@@ -39,7 +39,11 @@ module _ (w : ℕ) (l : List ℕ) (k : ℕ) where
 
 -- whole records are counted by division
 pub record-count : (w n : ℕ) (l : List ℕ) → 0 < w → length l ≡ w * n → recordCount w l ≡ n
-record-count w n l pos e = ap (λ (x : ℕ). (x + (w - 1)) / w) e ∙ mul-add-div pos n (w - 1) ∙ ap (λ (x : ℕ). n + x) (div-eq-of-lt (omega arith)) ∙ add-zero n
+record-count w n l pos e =
+    ap (λ (x : ℕ). (x + (w - 1)) / w) e
+    ∙ mul-add-div pos n (w - 1)
+    ∙ ap (λ (x : ℕ). n + x) (div-eq-of-lt (omega arith))
+    ∙ add-zero n
 
 -- Numbers within their limits
 
@@ -81,6 +85,25 @@ module _ (limits r : List ℕ) where
 
   pub above-end : (i : ℕ) → length limits ≤ i → first (above limits r) i (length limits - i) ≡ i
   above-end i h = first-end (above limits r) i (length limits) h
+
+  -- what such a loop answers: the record is cut, a number is above its limit, or none is
+  pub within-cut : (length r ≡ length limits → ⊥) → within limits r ≡ false
+  unfolding within
+  within-cut h = rw (ne-eqb (length r) (length limits) h)
+
+  pub within-stop : (i : ℕ) → length r ≡ length limits → i < length limits → firstAbove limits r ≡ first (above limits r) i (length limits - i)
+      → getD limits i 0 < getD r i 0 → within limits r ≡ false
+  unfolding within
+  within-stop i e h at lt =
+      let q : firstAbove limits r ≡ i = at ∙ above-stop i h lt in
+      rw (eq-eqb (length r) (length limits) e, ne-eqb (firstAbove limits r) (length limits) (λ z. omega arith))
+
+  pub within-end : (i : ℕ) → length r ≡ length limits → i ≡ length limits → firstAbove limits r ≡ first (above limits r) i (length limits - i)
+      → within limits r ≡ true
+  unfolding within
+  within-end i e h at =
+      let q : firstAbove limits r ≡ i = at ∙ above-end i (omega arith) in
+      rw (eq-eqb (length r) (length limits) e, eq-eqb (firstAbove limits r) (length limits) (q ∙ h))
 
 -- Records that a test refuses
 

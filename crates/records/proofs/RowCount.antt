@@ -8,7 +8,7 @@ use native.Mathlib.Omega.{arith}
 use borrow.Author.Tests.{leb-true, leb-false}
 use lib.Dec.{leb, lit≤}
 use lib.Pow.{pow-mono, pow-lt}
-use lib.Count.{leadingZeros, leading-top}
+use lib.Count.{leadingZeros, leading-top, leading-length}
 use Rattle.records.specs.RowCount.{doubled, rowCount, LeastPower}
 
 pub least-unique : {n r s : ℕ} → LeastPower n r → LeastPower n s → r ≡ s
@@ -59,28 +59,27 @@ row-count-covers n h = row-count-least n h .covers
 pub four-least : (n : ℕ) → n ≤ 4 → LeastPower n 4
 four-least n h = record { exponent = 2; power = refl; covers = h; four = le-refl 4; least = λ j a b. b }
 
--- what the code computes of z, the leading zeros of n - 1: 1 moved up by the digits below them
-pub record Shifted (n z : ℕ) : Type 0 where
-  pub within : z ≤ 64
-  pub short : 64 - z < 64
-  pub made : LeastPower n ((1 * 2 ^ (64 - z)) % 2 ^ 64)
+-- a number below 2^63 has a leading zero, so 1 can be moved up by the digits below its leading zeros
+pub zeros-short : (a : ℕ) → a < 2 ^ 63 → 64 - leadingZeros 64 a < 64
+zeros-short a h =
+    let t = leading-length 64 a (omega arith) in
+    let low : t .0 < 64 = lt-of-not-le (λ (g : 64 ≤ t .0). not-le-of-lt {n = 2 ^ 64} {m = 2 ^ t .0} (omega (arith, t .3)) (pow-mono g)) in
+    omega (arith, t .1)
 
-pub zeros-least : (n : ℕ) → 4 < n → n ≤ 2 ^ 63 → Shifted n (leadingZeros 64 (n - 1))
+-- 1 moved up by the digits below the leading zeros of n - 1
+pub zeros-least : (n : ℕ) → 4 < n → n ≤ 2 ^ 63 → LeastPower n ((1 * 2 ^ (64 - leadingZeros 64 (n - 1))) % 2 ^ 64)
 zeros-least n big small =
     let t = leading-top 64 (n - 1) (omega arith) (omega arith) in
     let j = t .0 in
-    let low : j < 63 = lt-of-not-le (λ (g : 63 ≤ j). not-le-of-lt {n = 2 ^ 63} {m = 2 ^ j} (omega (arith, t .2)) (pow-mono g)) in
     let e : 64 - leadingZeros 64 (n - 1) ≡ suc j = omega (arith, t .1) in
-    let exact : (1 * 2 ^ suc j) % 2 ^ 64 ≡ 2 ^ suc j = mod-eq-of-lt (omega (arith, pow-lt {i = suc j} {j = 64} (omega arith))) ∙ omega arith in
-    record {
-      within = omega (arith, t .1);
-      short = omega (arith, t .1);
-      made = rw (e, exact)
-          (record {
-            exponent = suc j;
-            power = refl;
-            covers = omega (arith, t .3);
-            four = omega (arith, t .3);
-            least = λ i a b. next-power j i (omega (arith, t .2));
-          });
-    }
+    let low : suc j < 64 = omega (arith, zeros-short (n - 1) (omega arith)) in
+    let exact : (1 * 2 ^ suc j) % 2 ^ 64 ≡ 2 ^ suc j =
+    mod-eq-of-lt (omega (arith, pow-lt {i = suc j} {j = 64} low)) ∙ omega arith in
+    rw (e, exact)
+    (record {
+      exponent = suc j;
+      power = refl;
+      covers = omega (arith, t .3);
+      four = omega (arith, t .3);
+      least = λ i a b. next-power j i (omega (arith, t .2));
+    })

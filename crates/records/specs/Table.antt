@@ -2,14 +2,13 @@
 -- lent table. Record width w, row width v, limit on the records, test of a record, row of a record and padding are parameters, so all
 -- tables share these definitions and their laws. Document 01: "tables and routing 8, 10, 11, 9". Assumes nothing.
 use Prim.Native.Nat.{ℕ, _*_}
-use mathlib.Core.Bool.{Bool, cond}
+use mathlib.Core.Bool.{cond}
 use mathlib.Core.List.{List}
 use lib.Dec.{ltb, leb}
-use lib.ListN.{length}
 use Rattle.answer.specs.declared.Answer.{Answer}
 use Rattle.answer.specs.Numbers.{accepted, refused}
 use Rattle.records.specs.Lists.{store, flat}
-use Rattle.records.specs.Records.{recordCount, recordAt, firstBad}
+use Rattle.records.specs.Records.{recordCount, recordAt}
 use Rattle.records.specs.RowCount.{rowCount}
 use Rattle.records.specs.declared.TableAnswer.{TableAnswer}
 use Rattle.records.specs.declared.TableAnswer.the-variants.{Made, TooManyRecords, BadRecord, BufferShort}

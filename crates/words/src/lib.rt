@@ -1,1 +1,60 @@
-// words
+// A 64-bit number as words, halves and bytes, lowest first, and sums taken modulo 2^64. Every function has a result for every input.
+// Assumes nothing.
+ghost use mathlib.Core.Path.{_≡_};
+ghost use Prim.Native.Nat.{_/_, _%_, _^_};
+ghost use Rattle.words.specs.Words.{words, halves, bytes, wrapAdd, wrapSub};
+
+// The bits below 2^32.
+pub fn low_word(x: u64) -> u64
+    ensures { λ r. ⌜ r ≡ x % 2 ^ 32 ⌝ }
+{
+    x % 4294967296
+}
+
+// The bits from 2^32 on.
+pub fn high_word(x: u64) -> u64
+    ensures { λ r. ⌜ r ≡ x / 2 ^ 32 % 2 ^ 32 ⌝ }
+{
+    x >> 32
+}
+
+pub fn words(x: u64) -> [u64; 2]
+    ensures { λ r. ⌜ r ≡ words x ⌝ }
+{
+    [low_word(x), high_word(x)]
+}
+
+pub fn halves(x: u64) -> [u64; 4]
+    ensures { λ r. ⌜ r ≡ halves x ⌝ }
+{
+    [x % 65536, (x >> 16) % 65536, (x >> 32) % 65536, x >> 48]
+}
+
+pub fn bytes(x: u64) -> [u64; 8]
+    ensures { λ r. ⌜ r ≡ bytes x ⌝ }
+{
+    [
+        x % 256,
+        (x >> 8) % 256,
+        (x >> 16) % 256,
+        (x >> 24) % 256,
+        (x >> 32) % 256,
+        (x >> 40) % 256,
+        (x >> 48) % 256,
+        x >> 56,
+    ]
+}
+
+// The sum, for the INCR and RES columns: "sums taken modulo 2^64, as the Rust's wrapping calls".
+pub fn wrapping_add(a: u64, b: u64) -> u64
+    ensures { λ r. ⌜ r ≡ wrapAdd a b ⌝ }
+{
+    std::num::wrapping_add_u64(a, b)
+}
+
+// The difference, for the DECR columns: "sums taken modulo 2^64, as the Rust's wrapping calls".
+pub fn wrapping_sub(a: u64, b: u64) -> u64
+    ensures { λ r. ⌜ r ≡ wrapSub a b ⌝ }
+{
+    std::num::wrapping_sub_u64(a, b)
+}

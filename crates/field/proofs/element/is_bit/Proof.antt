@@ -1,7 +1,6 @@
 -- `element::is_bit`: a bit's residue is 0, and otherwise it is computed as it is defined. Assumes nothing.
 use borrow.Author.Needs.{needs}
 use mathlib.Core.Path.{sym, ap, _∙_}
-use native.Mathlib.Omega.{arith}
 use Rattle.field.specs.Field.{mulP, bitP}
 use Rattle.field.proofs.Laws.{bit-zero}
 use Rattle.field.proofs.element.is_bit.Statement.{statement}

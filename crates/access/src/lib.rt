@@ -1,0 +1,114 @@
+// The access record: which runs of numbers are one. Assumes nothing.
+ghost use mathlib.Core.Path.{_≡_};
+ghost use Prim.Native.Nat.{_-_, _^_};
+ghost use lib.ListN.{length, replicate};
+ghost use Rattle.records.specs.Records.{within};
+ghost use Rattle.access.specs.Access.{accessRecord, isWidth, goodAccess};
+ghost use Rattle.access.specs.RegisterAccess.{registerAccess};
+
+// Where the numbers stand in a record, by the names of `MemwOperation`; VALUE, OLD and OLD_TIMESTAMP are the first of eight.
+pub const IS_REGISTER: usize = 0;
+
+pub const BASE_ADDRESS: usize = 1;
+
+pub const VALUE: usize = 2;
+
+pub const TIMESTAMP: usize = 10;
+
+pub const WIDTH: usize = 11;
+
+pub const IS_READ: usize = 12;
+
+pub const OLD: usize = 13;
+
+pub const OLD_TIMESTAMP: usize = 21;
+
+// Numbers in a record.
+pub const ACCESS_WIDTH: usize = 29;
+
+// Whether `op` is an access record: whole, and each field among its values.
+pub fn good_access(op: &[u64]) -> bool
+    ensures { λ r. ⌜ r ≡ goodAccess (now (op .entry)) ⌝ }
+{
+    if op.len() != ACCESS_WIDTH {
+        return false;
+    }
+    if 1 < op[IS_REGISTER] {
+        return false;
+    }
+    if 1 < op[IS_READ] {
+        return false;
+    }
+    if !is_width(op[WIDTH]) {
+        return false;
+    }
+    if !are_words(&op[VALUE..VALUE + 8]) {
+        return false;
+    }
+    are_words(&op[OLD..OLD + 8])
+}
+
+// The record of an access of a register: `address` is twice its number, and `value` and `old` are its words.
+pub fn register_access(
+    address: u64,
+    value: [u64; 2],
+    old: [u64; 2],
+    timestamp: u64,
+    old_timestamp: u64,
+    is_read: u64,
+) -> [u64; 29]
+    ensures { λ r. ⌜ r ≡ accessRecord (registerAccess address value old timestamp «old_timestamp» «is_read») ⌝ }
+{
+    [
+        1,
+        address,
+        value[0],
+        value[1],
+        0,
+        0,
+        0,
+        0,
+        0,
+        0,
+        timestamp,
+        2,
+        is_read,
+        old[0],
+        old[1],
+        0,
+        0,
+        0,
+        0,
+        0,
+        0,
+        old_timestamp,
+        old_timestamp,
+        0,
+        0,
+        0,
+        0,
+        0,
+        0,
+    ]
+}
+
+// Whether an access has this width.
+fn is_width(width: u64) -> bool
+    ensures { λ r. ⌜ r ≡ isWidth width ⌝ }
+{
+    (width == 1) | ((width == 2) | ((width == 4) | (width == 8)))
+}
+
+// Whether eight numbers are words: what is above 2^32 in each adds up to nothing, which asks no branch for each.
+fn are_words(part: &[u64]) -> bool
+    requires { ⌜ length (now part) ≡ 8 ⌝ }
+    ensures { λ r. ⌜ r ≡ within (replicate 8 (2 ^ 32 - 1)) (now (part .entry)) ⌝ }
+{
+    let mut high: u64 = 0;
+    let mut i = 0;
+    while i < 8 {
+        high += part[i] >> 32;
+        i += 1;
+    }
+    high == 0
+}

@@ -1,0 +1,4 @@
+pub mod Cuts
+pub mod Parse
+pub mod Chained
+pub mod Group

@@ -1,0 +1,26 @@
+-- Document 01's numbers tell the answers of `classify_memw` apart, and the routes. Assumes nothing.
+use mathlib.Core.Path.{_≡_, refl, ap}
+use native.Mathlib.Omega.{arith}
+use Rattle.answer.specs.declared.Answer.{Answer}
+use Rattle.classify.specs.Classify.{routeNumber, classifyNumbers}
+use Rattle.classify.specs.declared.MemwRoute.{MemwRoute}
+use Rattle.classify.specs.declared.MemwRoute.the-variants.{Register, Aligned, General}
+use Rattle.classify.specs.declared.ClassifyAnswer.{ClassifyAnswer}
+use Rattle.classify.specs.declared.ClassifyAnswer.the-variants.{Route, BadRecord}
+
+pub routeNumber-injective : (s t : MemwRoute) → routeNumber s ≡ routeNumber t → s ≡ t
+routeNumber-injective Register Register e = refl
+routeNumber-injective Register Aligned e = absurd (omega arith)
+routeNumber-injective Register General e = absurd (omega arith)
+routeNumber-injective Aligned Register e = absurd (omega arith)
+routeNumber-injective Aligned Aligned e = refl
+routeNumber-injective Aligned General e = absurd (omega arith)
+routeNumber-injective General Register e = absurd (omega arith)
+routeNumber-injective General Aligned e = absurd (omega arith)
+routeNumber-injective General General e = refl
+
+pub classifyNumbers-injective : (a b : ClassifyAnswer) → classifyNumbers a ≡ classifyNumbers b → a ≡ b
+classifyNumbers-injective (Route s) (Route t) e = ap Route (routeNumber-injective s t (ap (λ (x : Answer). x .value) e))
+classifyNumbers-injective (Route s) BadRecord e = absurd (omega (arith, ap (λ (x : Answer). x .number) e))
+classifyNumbers-injective BadRecord (Route t) e = absurd (omega (arith, ap (λ (x : Answer). x .number) e))
+classifyNumbers-injective BadRecord BadRecord e = refl

@@ -1,0 +1,71 @@
+-- `classify::route::is_aligned_op` meets its contract. The invariant: the lowest old stamp that is another is the lowest from `i` on.
+-- Assumes nothing.
+use mathlib.Core.Path.{_≡_, sym, _∙_}
+use Prim.Native.Nat.{_-_, _≤_}
+use native.Mathlib.Omega.{arith}
+use borrow.Author.Tests.{eq-eqb, ne-eqb}
+use denote.Ref.{now}
+use lib.ListN.{length}
+use Rattle.records.specs.Lists.{first}
+use Rattle.copy_row.specs.Columns.{at}
+use Rattle.access.specs.Access.{WIDTH}
+use Rattle.access.proofs.Good.{good-length, good-width, width-bounds}
+use Rattle.classify.specs.Classify.{otherStamp, isAlignedOp}
+use Rattle.classify.proofs.Stamps.{stamps-start, stamps-pass, stamps-stop, stamps-end}
+use borrow.Author.Needs.{needs}
+use Rattle.classify.proofs.route.is_aligned_op.Statement.{statement}
+use Rattle.classify.proofs.route.is_aligned_op.Tie as tie
+
+abbrev Inv-loop : tie.InvT-loop
+Inv-loop op width stamp n i₀ i = (i ≤ n) × (length op ≡ 29) × (n ≤ 8) × (first (otherStamp op) 0 n ≡ first (otherStamp op) i (n - i))
+
+abbrev μ-loop : tie.MeasureT-loop
+μ-loop op width stamp n i₀ i = n - i
+
+returns : tie.Need-returns Inv-loop μ-loop
+unfolding isAlignedOp
+returns c = rw (ne-eqb _ _ (λ z. c .if1 .taken (c .before .past-multiple .ensures ∙ z)))
+
+loop-holds : tie.Need-loop-holds Inv-loop μ-loop
+loop-holds c =
+    let op = now (c .before .before .before .before .before .before .args .op) in
+    let w = width-bounds (at op WIDTH) (good-width op (c .before .before .before .before .before .before .pre)) in
+    (omega arith, good-length op (c .before .before .before .before .before .before .pre), w .1, stamps-start op (w .0))
+
+returns-2 : tie.Need-returns-2 Inv-loop μ-loop
+unfolding isAlignedOp
+returns-2 c =
+    let op = now (c .before .before .before .before .before .before .before .before .before .before .args .op) in
+    rw (eq-eqb _ _ (sym (c .before .before .before .before .before .before .past-multiple .ensures) ∙ c .before .before .before .before .before .if1 .left), stamps-stop op (c .before .before .before .loop .i) (omega arith) (c .if2 .taken) (c .before .before .before .loop .inv .3))
+
+loop-again : tie.Need-loop-again Inv-loop μ-loop
+loop-again c =
+    let op = now (c .before .before .before .before .before .before .before .before .before .before .args .op) in
+    (omega arith, c .before .before .before .loop .inv .1, c .before .before .before .loop .inv .2, c .before .before .before .loop .inv .3 ∙ stamps-pass op (c .before .before .before .loop .i) (omega arith) (c .if2 .left))
+
+returns-3 : tie.Need-returns-3 Inv-loop μ-loop
+unfolding isAlignedOp
+returns-3 c =
+    let op = now (c .before .before .before .before .before .before .before .before .args .op) in
+    rw (eq-eqb _ _ (sym (c .before .before .before .before .past-multiple .ensures) ∙ c .before .before .before .if1 .left), stamps-end op (c .before .loop .i) (omega arith) (c .before .loop .inv .3))
+
+pub is-aligned-op-spec : {M : Type 1} → statement M
+is-aligned-op-spec =
+    tie.close
+    (tie.spec
+    Inv-loop
+    μ-loop
+    (λ c. omega (arith, good-length _ (c .before .before .pre)))
+    (λ c. omega (arith, good-length _ (c .before .before .before .pre)))
+    (λ c κs. good-width _ (c .before .before .before .pre))
+    returns
+    (λ c. omega (arith, good-length _ (c .before .before .before .before .before .before .pre)))
+    loop-holds
+    (λ c. search needs)
+    (λ c. search needs)
+    (λ c. search needs)
+    returns-2
+    (λ c. search needs)
+    (λ c. search needs)
+    loop-again
+    returns-3)

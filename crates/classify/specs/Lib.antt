@@ -1,0 +1,3 @@
+pub mod Classify
+pub mod RouteRecord
+pub mod RouteExamples

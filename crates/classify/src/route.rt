@@ -1,0 +1,130 @@
+// Internal to the workspace, not open to callers: the route of a good access record and its record in the route's list, for the entry of
+// this crate, routing and `push_reg_access`. Assumes nothing but what each `requires` says.
+use crate::MemwRoute;
+use access::BASE_ADDRESS;
+use access::IS_READ;
+use access::IS_REGISTER;
+use access::OLD;
+use access::OLD_TIMESTAMP;
+use access::TIMESTAMP;
+use access::VALUE;
+use access::WIDTH;
+ghost use mathlib.Core.Path.{_≡_};
+ghost use mathlib.Core.Bool.{true};
+ghost use Prim.Native.Nat.{_%_};
+ghost use lib.ListN.{length};
+ghost use Rattle.access.specs.Access.{isWidth, goodAccess};
+ghost use Rattle.classify.specs.Classify.{deltaInRange, isRegisterOp, isAlignedOp, classify};
+ghost use Rattle.classify.specs.RouteRecord.{registerRecord, addressFits};
+
+// The route of an access. Register is decided first, then aligned; the rest is general.
+pub fn classify(op: &[u64]) -> MemwRoute
+    requires { ⌜ goodAccess (now op) ≡ true ⌝ }
+    ensures { λ r. ⌜ r ≡ classify (now (op .entry)) ⌝ }
+{
+    if is_register_op(op) {
+        return MemwRoute::Register;
+    }
+    if is_aligned_op(op) {
+        return MemwRoute::Aligned;
+    }
+    MemwRoute::General
+}
+
+// A two-word register access whose words were written together, not long ago.
+fn is_register_op(op: &[u64]) -> bool
+    requires { ⌜ length (now op) ≡ 29 ⌝ }
+    ensures { λ r. ⌜ r ≡ isRegisterOp (now (op .entry)) ⌝ }
+{
+    if op[IS_REGISTER] != 1 {
+        return false;
+    }
+    if op[WIDTH] != 2 {
+        return false;
+    }
+    if op[OLD_TIMESTAMP] != op[OLD_TIMESTAMP + 1] {
+        return false;
+    }
+    reg_ts_delta_in_range(op[TIMESTAMP], op[OLD_TIMESTAMP])
+}
+
+// High words equal, and the low word 1 to 65,536 above the old one: what one half holds.
+fn reg_ts_delta_in_range(timestamp: u64, old_ts: u64) -> bool
+    ensures { λ r. ⌜ r ≡ deltaInRange timestamp «old_ts» ⌝ }
+{
+    if timestamp >> 32 != old_ts >> 32 {
+        return false;
+    }
+    let ts_lo = timestamp % 4294967296;
+    let old_ts_lo = old_ts % 4294967296;
+    if ts_lo <= old_ts_lo {
+        return false;
+    }
+    ts_lo - old_ts_lo <= 65536
+}
+
+// An address that is a multiple of the width, and cells that were written together.
+fn is_aligned_op(op: &[u64]) -> bool
+    requires { ⌜ goodAccess (now op) ≡ true ⌝ }
+    ensures { λ r. ⌜ r ≡ isAlignedOp (now (op .entry)) ⌝ }
+{
+    let width = op[WIDTH];
+    if past_multiple(op[BASE_ADDRESS] % 4294967296, width) != 0 {
+        return false;
+    }
+    let stamp = op[OLD_TIMESTAMP];
+    let n = width as usize;
+    let mut i = 1;
+    while i < n {
+        if op[OLD_TIMESTAMP + i] != stamp {
+            return false;
+        }
+        i += 1;
+    }
+    true
+}
+
+// How far `low` is past a multiple of the width. Each width by itself: then no division is left.
+fn past_multiple(low: u64, width: u64) -> u64
+    requires { ⌜ isWidth width ≡ true ⌝ }
+    ensures { λ r. ⌜ r ≡ low % width ⌝ }
+{
+    if width == 8 {
+        return low % 8;
+    }
+    if width == 4 {
+        return low % 4;
+    }
+    if width == 2 {
+        return low % 2;
+    }
+    0
+}
+
+// Whether an access at this address has a place in its route's table.
+pub fn address_fits(route: MemwRoute, address: u64) -> bool
+    ensures { λ r. ⌜ r ≡ addressFits route address ⌝ }
+{
+    match route {
+        MemwRoute::Register => (address % 2 == 0) & (address / 2 <= 65535),
+        MemwRoute::Aligned => true,
+        MemwRoute::General => true,
+    }
+}
+
+// The register table's record of an access.
+pub fn register_record(op: &[u64]) -> [u64; 8]
+    requires { ⌜ length (now op) ≡ 29 ⌝ }
+    ensures { λ r. ⌜ r ≡ registerRecord (now (op .entry)) ⌝ }
+{
+    [
+        op[BASE_ADDRESS] / 2,
+        op[TIMESTAMP],
+        op[VALUE],
+        op[VALUE + 1],
+        op[OLD],
+        op[OLD + 1],
+        op[OLD_TIMESTAMP] % 4294967296,
+        op[IS_READ],
+    ]
+}

@@ -1,0 +1,27 @@
+-- What is proved of one copy row: the theorems of this crate, collected. `RowIff` is the per-row half of demand 3. Assumes nothing.
+use mathlib.Core.Path.{_≡_}
+use Prim.Native.Nat.{ℕ, _^_, _<_}
+use Rattle.copy_row.specs.Calls.{Op}
+use Rattle.copy_row.specs.Rows.{wrapped, rowOf, tableRow, paddingRow}
+use Rattle.copy_residues.specs.RowCheck.{rowFault}
+use Rattle.copy_residues.specs.declared.RowFault.the-variants.{Fine}
+use Rattle.copy_meaning.specs.Steps.{Words, PieceOk, LiveStep}
+use Rattle.copy_meaning.specs.ReadRow.{opAt, nextAt}
+use Rattle.copy_meaning.specs.RowIff.{RowIff, CallRowIs, NeverFree, OneFilling}
+use Rattle.copy_meaning.specs.Instances.{Instances}
+
+pub record RowMeaning : Type 0 where
+  -- a row has no fault exactly if it is the row of its record, and the record meets the conditions of its step
+  pub row-iff : RowIff
+  -- so the table row of a record that meets the live conditions passes, and padding passes
+  pub live-passes : (gap : ℕ) (o : Op) → gap < 2 ^ 32 → LiveStep gap o → rowFault gap (tableRow o) ≡ Fine
+  pub padding-passes : (gap : ℕ) → gap < 2 ^ 32 → rowFault gap paddingRow ≡ Fine
+  -- what is read off a made row is its record, and what the row hands on is what the record's wrapped sums say
+  pub op-back : (mu : ℕ) (o : Op) → Words (o .call) → PieceOk (o .piece) → opAt (rowOf mu o) ≡ o
+  pub next-back : (mu : ℕ) (o : Op) → Words (o .call) → nextAt (rowOf mu o) ≡ wrapped o
+  -- DST_RES is never free, so document 01's exception has no instance
+  pub never-free : NeverFree
+  pub call-row : CallRowIs
+  pub one-filling : OneFilling
+  -- rows that pass and rows that do not
+  pub instances : Instances

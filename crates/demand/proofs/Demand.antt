@@ -1,0 +1,62 @@
+-- Demand 3 holds. Assumes nothing.
+use mathlib.Core.Path.{_≡_, refl}
+use mathlib.Core.Bool.{Bool, true, false, cond}
+use mathlib.Core.List.{List, flatMap}
+use Prim.Native.Nat.{ℕ, _*_, _/_, _^_, _≤_, _<_}
+use native.Mathlib.Omega.{arith}
+use borrow.Author.Tests.{leb-false}
+use lib.Dec.{leb}
+use lib.ListN.{length, take}
+use Rattle.copy_row.specs.Columns.{COLUMNS}
+use Rattle.records.specs.declared.TableAnswer.the-variants.{Made}
+use Rattle.copy_row.specs.Calls.{opRecord}
+use Rattle.copy_row.specs.Trace.{copyAnswer, copyAfter}
+use Rattle.copy_meaning.specs.Steps.{All}
+use Rattle.chain.specs.Chain.{chainAnswer}
+use Rattle.chain.specs.declared.ChainAnswer.{ChainAnswer}
+use Rattle.chain.specs.declared.ChainAnswer.the-variants.{Passed, GapTooLarge}
+use Rattle.calls.specs.Cuts.{CutCall, opsOf, Fits}
+use Rattle.calls.specs.OpChain.{callsOf}
+use Rattle.read_back.specs.ReadBack.{callNumbers}
+use Rattle.demand.specs.Demand.{Passes, ReadsBack, Demand3}
+use Rattle.demand.proofs.Verdict.{Accepted}
+use Rattle.demand.proofs.Whole.{passes-calls, calls-pass, calls-passes}
+use Rattle.demand.proofs.ReadBack.{reads-back, only-nine}
+use Rattle.demand.proofs.Alone.{alone}
+use Rattle.demand.proofs.Made.{written-calls}
+
+-- no list passes under a gap of 2^32 or more
+gap-below : (gap : ℕ) (l : List ℕ) → Passes gap l → gap < 2 ^ 32
+unfolding chainAnswer
+gap-below gap l e = go (leb (2 ^ 32) gap) _ refl e
+  where
+    go : (t : Bool) (v : ChainAnswer) → leb (2 ^ 32) gap ≡ t → Accepted (cond t GapTooLarge v) → gap < 2 ^ 32
+    go true v h e = absurd (omega arith)
+    go false v h e = leb-false (2 ^ 32) gap h
+
+counts : (gap : ℕ) (l : List ℕ) → Passes gap l → chainAnswer gap l ≡ Passed (length l / COLUMNS)
+counts gap l e =
+    let g = gap-below gap l e in
+    let w = passes-calls gap g l e in
+    calls-pass gap g l (w .0) (w .1)
+
+-- the rows that the maker writes of the records of calls that fit pass, and are read back as these records and calls
+pub made-passes : (gap : ℕ) → gap < 2 ^ 32 → (limit : ℕ) → limit ≤ 2 ^ 63 → (ks : List CutCall) → All (Fits gap) ks
+    → (table : List ℕ) (rows : ℕ) → let records = flatMap opRecord (opsOf ks) in
+    copyAnswer limit records (length table) ≡ Made rows
+    → let l = take (COLUMNS * rows) (copyAfter records (Made rows) table) in
+    Passes gap l × ((ops calls : List ℕ) → ReadsBack gap l records (flatMap callNumbers (callsOf ks)) ops calls)
+made-passes gap g limit small ks fits table rows made =
+    let l = take (COLUMNS * rows) (copyAfter (flatMap opRecord (opsOf ks)) (Made rows) table) in
+    let w = written-calls gap limit small ks fits table rows made g in
+    (calls-passes gap g l ks w, reads-back gap g l ks w)
+
+pub demand3 : Demand3
+demand3 =
+    record {
+      exactly = λ gap g l. (passes-calls gap g l, λ w. calls-passes gap g l (w .0) (w .1));
+      counts = counts;
+      reads = λ gap g l ks w ops calls. reads-back gap g l ks w ops calls;
+      alone = alone;
+      only-nine = only-nine;
+    }

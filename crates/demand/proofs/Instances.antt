@@ -1,0 +1,105 @@
+-- The instances hold, by computing. Assumes nothing.
+use mathlib.Core.Path.{refl}
+use mathlib.Core.List.{[], _∷_, flatMap}
+use mathlib.Core.Logic.{inl, inr}
+use Prim.Native.Nat.{ℕ, _<_}
+use native.Mathlib.Omega.{arith}
+use Rattle.field.specs.Field.{addP, subP, mulP, bitP}
+use Rattle.field.specs.Carries.{carryP, carryLow, carryHigh}
+use Rattle.records.specs.Lists.{store, flat, picked, counted, first}
+use Rattle.records.specs.Records.{firstAbove, within, firstBad}
+use Rattle.records.specs.RowCount.{doubled, rowCount}
+use Rattle.records.specs.Table.{tableAnswer, rowAt, tableAfter}
+use Rattle.copy_row.specs.Rows.{rowOf, paddingRow}
+use Rattle.copy_row.specs.Trace.{opLimits, copyAnswer, copyAfter}
+use Rattle.copy_residues.specs.Range.{columnLimits, firstLarge, firstOut}
+use Rattle.copy_residues.specs.Residues.{halvesWord, step, incrLow, incrHigh, decrLow, decrHigh, resLow, resHigh, gapLow, gapHigh, borrow, impliesMu, oneHot, firstWrite, gatedBit, dstResNonWrite, singleLane, borrowImplies, borrowImpliesZero, endImplies, muComIs, muComWideIs, noWrap, gapNoWrap, residue}
+use Rattle.copy_residues.specs.RowCheck.{firstResidue, rowFault}
+use Rattle.copy_meaning.specs.Steps.{All, PieceOk}
+use Rattle.copy_meaning.proofs.Check.{fine-passing}
+use Rattle.chain.specs.Link.{same, linked, before}
+use Rattle.chain.specs.Chain.{rowsFrom, chainFrom, chainAnswer}
+use Rattle.calls.specs.Cuts.{Fits}
+use Rattle.read_back.specs.ReadBack.{opsCount, callsCount, readOps, readCalls, roomAnswer, readBackAnswer}
+use Rattle.demand.specs.Demand.{DeadRow, WholeCalls, AnyCall}
+use Rattle.demand.specs.Instances.{wide, narrow, threeKinds, deadRow, rows, unsound, Instances}
+use Rattle.demand.proofs.Whole.{whole-calls}
+
+wide-ok : (byte : ℕ) → byte < 256 → PieceOk (wide byte)
+wide-ok byte h = record { wide = inr refl; eight = refl; bytes = omega arith; tail = λ e. absurd (omega arith) }
+
+narrow-ok : (byte : ℕ) → byte < 256 → PieceOk (narrow byte)
+narrow-ok byte h = record { wide = inl refl; eight = refl; bytes = omega arith; tail = λ e. refl }
+
+three-fit : All (Fits 8) threeKinds
+three-fit = (
+  record {
+    sound = record { words = omega arith; reach = inr (omega arith, omega arith); gapped = λ e. absurd (omega arith) };
+    cut = refl;
+    pieces = (wide-ok 5 (omega arith), (narrow-ok 6 (omega arith), tt));
+  },
+  (
+    record {
+      sound = record { words = omega arith; reach = inl refl; gapped = λ e. refl };
+      cut = refl;
+      pieces = (wide-ok 7 (omega arith), tt);
+    },
+    (
+      record {
+        sound = record { words = omega arith; reach = inr (omega arith, omega arith); gapped = λ e. absurd (omega arith) };
+        cut = refl;
+        pieces = (narrow-ok 9 (omega arith), tt);
+      },
+      tt,
+    ),
+  ),
+)
+
+unsound-any : AnyCall unsound
+unsound-any =
+    record {
+      words = omega arith;
+      pieces = (record { width = omega arith; eight = refl }, (record { width = omega arith; eight = refl }, tt));
+      row = omega arith;
+    }
+
+dead-row : DeadRow 8 deadRow
+unfolding paddingRow addP subP mulP bitP carryP carryLow carryHigh first columnLimits firstLarge firstOut halvesWord step incrLow incrHigh decrLow
+    decrHigh resLow resHigh gapLow gapHigh borrow impliesMu oneHot firstWrite gatedBit dstResNonWrite singleLane borrowImplies
+    borrowImpliesZero endImplies muComIs muComWideIs noWrap gapNoWrap residue firstResidue rowFault
+dead-row =
+    let q = fine-passing 8 deadRow refl in
+    record { dead = refl; range = q .range; zeroes = q .zeroes }
+
+rows-whole : WholeCalls 8 rows threeKinds
+unfolding paddingRow flatMap rowOf rowsFrom
+rows-whole = whole-calls 8 (omega arith) rows refl threeKinds three-fit (deadRow ∷ []) (dead-row, tt) refl
+
+pub instances : Instances
+unfolding flatMap addP subP mulP bitP carryP carryLow carryHigh store flat picked counted first firstAbove within firstBad doubled rowCount
+    tableAnswer rowAt tableAfter rowOf paddingRow opLimits copyAnswer copyAfter columnLimits firstLarge firstOut halvesWord step incrLow
+    incrHigh decrLow decrHigh resLow resHigh gapLow gapHigh borrow impliesMu oneHot firstWrite gatedBit dstResNonWrite singleLane
+    borrowImplies borrowImpliesZero endImplies muComIs muComWideIs noWrap gapNoWrap residue firstResidue rowFault same linked before
+    rowsFrom chainFrom chainAnswer opsCount callsCount readOps readCalls roomAnswer readBackAnswer
+instances =
+    record {
+      passes = refl;
+      empty = refl;
+      sound = three-fit;
+      whole = rows-whole;
+      ops = refl;
+      calls = refl;
+      read = refl;
+      short = refl;
+      made = refl;
+      table = refl;
+      any = unsound-any;
+      refused-7 = refl;
+      refused-13 = refl;
+      refused-14 = refl;
+      refused-15 = refl;
+      refused-16 = refl;
+      refused-17 = refl;
+      refused-17-late = refl;
+      refused-18 = refl;
+    }

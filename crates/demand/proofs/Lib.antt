@@ -1,0 +1,10 @@
+pub mod MadeRows
+pub mod Verdict
+pub mod RowLists
+pub mod Whole
+pub mod ReadBack
+pub mod Alone
+pub mod GoodRecords
+pub mod Made
+pub mod Demand
+pub mod Instances

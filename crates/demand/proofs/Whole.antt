@@ -1,0 +1,151 @@
+-- A list passes exactly when its live rows are those of sound cut calls and its other rows are dead and last. Assumes nothing.
+use mathlib.Core.Path.{_≡_, refl, sym, ap, _∙_, subst}
+use mathlib.Core.Bool.{Bool, true, false, cond}
+use mathlib.Core.List.{List, [], _∷_, _++_, map}
+use mathlib.Core.Logic.{inl}
+use mathlib.Core.Option.{Option, none, some}
+use Prim.Native.Nat.{ℕ, _/_, _%_, _^_, _<_}
+use native.Mathlib.Omega.{arith}
+use borrow.Author.Tests.{eqb-true, eq-eqb, lt-leb}
+use lib.Dec.{eqb}
+use lib.ListN.{length}
+use Rattle.copy_row.specs.Columns.{at, MU, COLUMNS}
+use Rattle.copy_row.specs.Calls.{Call, Op}
+use Rattle.copy_row.specs.Rows.{tableRow}
+use Rattle.copy_row.proofs.Rows.{row-wide}
+use Rattle.copy_meaning.specs.Steps.{All, LiveStep}
+use Rattle.copy_meaning.specs.RowIff.{CallRow}
+use Rattle.copy_meaning.proofs.Check.{fine-passing, passing-fine}
+use Rattle.copy_meaning.proofs.RowIff.{live-passes}
+use Rattle.copy_meaning.proofs.DstRes.{call-row}
+use Rattle.chain.specs.Link.{closed}
+use Rattle.chain.specs.Chain.{rowsOf, chainFrom, chainAnswer, chainNumbers}
+use Rattle.chain.specs.declared.ChainAnswer.{ChainAnswer}
+use Rattle.chain.specs.declared.ChainAnswer.the-variants.{Passed, NotRows}
+use Rattle.calls.specs.Cuts.{CutCall, opsOf, Fits}
+use Rattle.calls.specs.OpChain.{next, Chain}
+use Rattle.calls.proofs.Parse.{parse}
+use Rattle.calls.proofs.Chained.{chain}
+use Rattle.demand.specs.Demand.{Passes, liveRows, DeadRow, Each, WholeCalls}
+use Rattle.demand.proofs.MadeRows.{row-mu}
+use Rattle.demand.proofs.Verdict.{Accepted, DeadFine, accepted-good, good-passes}
+use Rattle.demand.proofs.RowLists.{rows-length, rows-of-wide}
+
+-- every record of a chain is a live step
+pub steps : (gap : ℕ) (e : Option Call) (os : List Op) → Chain gap e os → All (LiveStep gap) os
+steps gap none [] c = tt
+steps gap (some x) [] c = absurd c
+steps gap e (o ∷ os) c = (c .1, steps gap (next o) os (c .2))
+
+-- Live rows
+
+abbrev pub Still : List ℕ → Type 0
+Still row = at row MU ≡ 0
+
+live-none : (rows : List (List ℕ)) → All Still rows → liveRows rows ≡ []
+live-none [] still = refl
+live-none (row ∷ rows) still = rw (still .0) (live-none rows (still .1))
+
+pub live-rows : (os : List Op) (others : List (List ℕ)) → All Still others → liveRows (map tableRow os ++ others) ≡ map tableRow os
+live-rows [] others still = live-none others still
+live-rows (o ∷ os) others still = rw (row-mu 1 o) (ap (λ t. tableRow o ∷ t) (live-rows os others still))
+
+-- the rows of calls are their table rows
+pub rows-are : (gap : ℕ) (os : List Op) (rows : List (List ℕ)) → Each (CallRow gap) os rows → rows ≡ map tableRow os
+rows-are gap [] [] each = refl
+rows-are gap [] (row ∷ rows) each = absurd each
+rows-are gap (o ∷ os) [] each = absurd each
+rows-are gap (o ∷ os) (row ∷ rows) each = λ i. call-row gap o row (each .0) i ∷ rows-are gap os rows (each .1) i
+
+-- Dead rows
+
+pub dead-rows : (gap : ℕ) (rows : List (List ℕ)) → All (DeadFine gap) rows → All (DeadRow gap) rows
+dead-rows gap [] d = tt
+dead-rows gap (row ∷ rows) d =
+    let q = fine-passing gap row (d .0 .fine) in
+    (record { dead = d .0 .dead; range = q .range; zeroes = q .zeroes }, dead-rows gap rows (d .1))
+
+abbrev Wide : List ℕ → Type 0
+Wide row = length row ≡ COLUMNS
+
+dead-fine : (gap : ℕ) (rows : List (List ℕ)) → All Wide rows → All (DeadRow gap) rows → All (DeadFine gap) rows
+dead-fine gap [] wide d = tt
+dead-fine gap (row ∷ rows) wide d = (
+  record { dead = d .0 .dead; fine = passing-fine gap row (wide .0) (record { range = d .0 .range; zeroes = d .0 .zeroes }) },
+  dead-fine gap rows (wide .1) (d .1),
+)
+
+pub all-still : (gap : ℕ) (rows : List (List ℕ)) → All (DeadRow gap) rows → All Still rows
+all-still gap [] d = tt
+all-still gap (row ∷ rows) d = (d .0 .dead, all-still gap rows (d .1))
+
+behind : (xs ys : List (List ℕ)) → All Wide (xs ++ ys) → All Wide ys
+behind [] ys wide = wide
+behind (x ∷ xs) ys wide = behind xs ys (wide .1)
+
+-- The whole check
+
+module _ (gap : ℕ) (g : gap < 2 ^ 32) (l : List ℕ) where
+  pub check-rows : length l % COLUMNS ≡ 0 → chainAnswer gap l ≡ chainFrom gap closed 0 (rowsOf l)
+  unfolding chainAnswer
+  check-rows whole = rw (lt-leb (2 ^ 32) gap g, eq-eqb (length l % COLUMNS) 0 whole)
+
+  pub passes-whole : Passes gap l → length l % COLUMNS ≡ 0
+  unfolding chainAnswer
+  passes-whole e = eqb-true _ _ (go (eqb (length l % COLUMNS) 0) (rw (lt-leb (2 ^ 32) gap g) at e))
+    where
+      go : (t : Bool) → Accepted (cond t (chainFrom gap closed 0 (rowsOf l)) NotRows) → t ≡ true
+      go true e = refl
+      go false e = absurd (omega arith)
+
+module _ (gap : ℕ) (g : gap < 2 ^ 32) where
+  made-call-rows : (os : List Op) → All (LiveStep gap) os → Each (CallRow gap) os (map tableRow os)
+  made-call-rows [] s = tt
+  made-call-rows (o ∷ os) s = (
+    record { wide = row-wide 1 o; range = fine-passing gap (tableRow o) (live-passes gap o g (s .0)) .range; same = inl refl },
+    made-call-rows os (s .1),
+  )
+
+  -- rows of cut calls that fit, then dead rows
+  pub whole-calls : (l : List ℕ) → length l % COLUMNS ≡ 0 → (ks : List CutCall) → All (Fits gap) ks → (others : List (List ℕ))
+      → All (DeadRow gap) others → rowsOf l ≡ map tableRow (opsOf ks) ++ others → WholeCalls gap l ks
+  whole-calls l whole ks fits others dead same =
+      let live : liveRows (rowsOf l) ≡ map tableRow (opsOf ks) = ap liveRows same ∙ live-rows (opsOf ks) others (all-still gap others dead) in
+      record {
+        rows = whole;
+        sound = fits;
+        live =
+            subst (λ (rows : List (List ℕ)). Each (CallRow gap) (opsOf ks) rows) (sym live)
+            (made-call-rows (opsOf ks) (steps gap none (opsOf ks) (chain gap ks fits)));
+        others = others;
+        last = same ∙ ap (λ rows. rows ++ others) (sym live);
+        dead = dead;
+      }
+
+  pub passes-calls : (l : List ℕ) → Passes gap l → (ks : List CutCall) × WholeCalls gap l ks
+  passes-calls l e =
+      let whole = passes-whole gap g l e in
+      let good = accepted-good gap g closed 0 (rowsOf l) (rows-of-wide l whole) (subst (λ (v : ChainAnswer). Accepted v) (check-rows gap g l whole) e) in
+      let parsed = parse gap none (good .ops) (good .chain) in (
+        parsed .0,
+        whole-calls l whole (parsed .0) (parsed .1) (good .others) (dead-rows gap (good .others) (good .dead))
+            (good .same ∙ ap (λ os. map tableRow os ++ good .others) (parsed .2)),
+      )
+
+  module _ (l : List ℕ) (ks : List CutCall) (w : WholeCalls gap l ks) where
+    -- the list's rows are the table rows of the calls, then the others
+    pub calls-rows : rowsOf l ≡ map tableRow (opsOf ks) ++ w .others
+    calls-rows = w .last ∙ ap (λ rows. rows ++ w .others) (rows-are gap (opsOf ks) (liveRows (rowsOf l)) (w .live))
+
+    pub calls-pass : chainAnswer gap l ≡ Passed (length l / COLUMNS)
+    calls-pass =
+        let wide : All Wide (map tableRow (opsOf ks) ++ w .others) = subst (All Wide) calls-rows (rows-of-wide l (w .rows)) in
+        let fine = dead-fine gap (w .others) (behind (map tableRow (opsOf ks)) (w .others) wide) (w .dead) in
+        check-rows gap g l (w .rows)
+        ∙ ap (chainFrom gap closed 0) calls-rows
+        ∙ good-passes gap g (opsOf ks) (w .others) (chain gap ks (w .sound)) fine
+        ∙ ap (λ rows. Passed (length rows)) (sym calls-rows)
+        ∙ ap Passed (rows-length (length l / COLUMNS) l)
+
+    pub calls-passes : Passes gap l
+    calls-passes = ap (λ v. chainNumbers v .number) calls-pass

@@ -1,0 +1,83 @@
+-- Small instances of what demand 3 speaks of, so that nothing in it is empty: lists that pass, and one for each refusal, computed over
+-- the definitions. The theorem that they hold is in proofs/. Assumes nothing.
+use mathlib.Core.Path.{_≡_}
+use mathlib.Core.List.{List, [], _∷_, _++_, flatMap}
+use Prim.Native.Nat.{ℕ, _+_, _*_, _^_}
+use lib.ListN.{set, take, drop, replicate}
+use Rattle.field.specs.Field.{p}
+use Rattle.records.specs.declared.TableAnswer.the-variants.{Made}
+use Rattle.copy_row.specs.Columns.{SRC, SRC-INCR, DST-INCR, MU-COM-WIDE, COLUMNS}
+use Rattle.copy_row.specs.Calls.{Piece, opRecord}
+use Rattle.copy_row.specs.Rows.{tableRow, paddingRow}
+use Rattle.copy_row.specs.Trace.{copyAnswer, copyAfter}
+use Rattle.copy_meaning.specs.Steps.{All}
+use Rattle.chain.specs.Chain.{chainAnswer}
+use Rattle.chain.specs.declared.ChainAnswer.the-variants.{Passed, GapTooLarge, NotRows, BadElement, BadRange, BadResidue, LinkBroken, NotEnded}
+use Rattle.calls.specs.Cuts.{CutCall, opsOf, Fits}
+use Rattle.calls.specs.OpChain.{callsOf}
+use Rattle.read_back.specs.ReadBack.{callNumbers, readOps, readCalls, readBackAnswer}
+use Rattle.read_back.specs.declared.ReadBackAnswer.the-variants.{Read, BufferShort}
+use Rattle.demand.specs.Demand.{WholeCalls, AnyCall}
+
+abbrev pub wide : ℕ → Piece
+wide byte = record { width = 8; value = replicate 8 byte }
+
+abbrev pub narrow : ℕ → Piece
+narrow byte = record { width = 1; value = byte ∷ replicate 7 0 }
+
+-- a Copy of nine bytes in two rows, an empty Set whose one row has width 8 and values, and a Write of one byte; the gap is 8
+abbrev pub threeKinds : List CutCall
+threeKinds =
+    record { call = record { kind = 0; stamp = 4; src = 0; dst = 16; count = 9 }; pieces = wide 5 ∷ narrow 6 ∷ [] }
+    ∷ record { call = record { kind = 1; stamp = 5; src = 100; dst = 108; count = 0 }; pieces = wide 7 ∷ [] }
+    ∷ record { call = record { kind = 2; stamp = 6; src = 3; dst = 40; count = 1 }; pieces = narrow 9 ∷ [] }
+    ∷ []
+
+-- a dead row that is not padding: "COUNT 8, SRC 5, SRC_INCR 13, DST_INCR 8"
+abbrev pub deadRow : List ℕ
+deadRow = set (set paddingRow SRC 5) SRC-INCR 13
+
+abbrev pub records : List ℕ
+records = flatMap opRecord (opsOf threeKinds)
+
+-- the rows of the calls, and the dead row last
+abbrev pub rows : List ℕ
+rows = flatMap tableRow (opsOf threeKinds) ++ deadRow
+
+-- row k of these, and rows with the number in column c of row k replaced
+abbrev pub row : ℕ → List ℕ
+row k = take COLUMNS (drop (COLUMNS * k) rows)
+
+abbrev pub spoiled : ℕ → ℕ → ℕ → List ℕ
+spoiled k c x = set rows (COLUMNS * k + c) x
+
+-- a Copy that would read past 2^64, in widths that do not add up
+abbrev pub unsound : CutCall
+unsound = record { call = record { kind = 0; stamp = 4; src = 18446744073709551615; dst = 0; count = 3 }; pieces = wide 1 ∷ wide 2 ∷ [] }
+
+pub record Instances : Type 0 where
+  -- lists that pass: calls of all three kinds, one of them empty and of width 8, and a dead row that is not padding; no row at all
+  pub passes : chainAnswer 8 rows ≡ Passed 5
+  pub empty : chainAnswer 8 [] ≡ Passed 0
+  pub sound : All (Fits 8) threeKinds
+  pub whole : WholeCalls 8 rows threeKinds
+  -- read-back of the first, with buffers just long enough, and one short
+  pub ops : readOps rows ≡ records
+  pub calls : readCalls rows ≡ flatMap callNumbers (callsOf threeKinds)
+  pub read : readBackAnswer 8 rows 64 15 ≡ Read 4 3
+  pub short : readBackAnswer 8 rows 64 14 ≡ BufferShort
+  -- the table made of the calls' records, in a lent table of 170 numbers, and its rows
+  pub made : copyAnswer 65536 records 170 ≡ Made 4
+  pub table : chainAnswer 8 (take (COLUMNS * 4) (copyAfter records (Made 4) (replicate 170 1))) ≡ Passed 4
+  -- calls and widths of no sound call
+  pub any : AnyCall unsound
+  -- a list for each refusal of the chain check: a gap too large, a number too many, a number that is p, a half of 65,537, a wrong sum, a
+  -- row out of its order, a live row after a dead one, a call cut off
+  pub refused-7 : chainAnswer (2 ^ 32) rows ≡ GapTooLarge
+  pub refused-13 : chainAnswer 8 (rows ++ (0 ∷ [])) ≡ NotRows
+  pub refused-14 : chainAnswer 8 (spoiled 4 MU-COM-WIDE p) ≡ BadElement 4
+  pub refused-15 : chainAnswer 8 (spoiled 3 SRC-INCR 65537) ≡ BadRange 3
+  pub refused-16 : chainAnswer 8 (spoiled 1 DST-INCR 26) ≡ BadResidue 1 12
+  pub refused-17 : chainAnswer 8 (row 1 ++ row 0) ≡ LinkBroken 0
+  pub refused-17-late : chainAnswer 8 (deadRow ++ row 2) ≡ LinkBroken 1
+  pub refused-18 : chainAnswer 8 (row 0) ≡ NotEnded 1

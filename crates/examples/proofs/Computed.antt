@@ -1,0 +1,19 @@
+-- Every starred example holds, by computing. Assumes nothing.
+use mathlib.Core.Path.{refl}
+use Rattle.field.specs.Field.{mulP}
+use Rattle.records.specs.RowCount.{rowCount, doubled}
+use Rattle.copy_residues.proofs.Examples.{residue-examples}
+use Rattle.memw_rows.proofs.Examples.{carry-examples}
+use Rattle.examples.specs.Examples.{StarredExamples}
+
+pub starred-examples : StarredExamples
+unfolding mulP rowCount doubled
+starred-examples =
+    record {
+      no-records = refl;
+      five-records = refl;
+      minus-one-squared = refl;
+      word-squared = refl;
+      residues = residue-examples;
+      carries = carry-examples;
+    }

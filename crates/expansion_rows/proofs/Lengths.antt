@@ -1,0 +1,101 @@
+-- Lengths: records joined, windows after a turn, accesses of a turn. Assumes nothing.
+use mathlib.Core.Path.{_≡_, refl, sym, ap, _∙_}
+use mathlib.Core.Bool.{Bool, true, false, cond}
+use mathlib.Core.List.{List, [], _∷_, _++_, flatMap, append-assoc, append-nil}
+use Prim.Native.Nat.{ℕ, suc, _+_}
+use native.Mathlib.Omega.{arith}
+use lib.ListN.{length}
+use Rattle.copy_row.specs.Calls.{Call, Op, opRecord}
+use Rattle.copy_row.specs.Rows.{bit}
+use Rattle.access.specs.Access.{Access}
+use Rattle.window.specs.Window.{Window, windowOf, writeBytes, writeStamps, readAccess, writeAccess}
+use Rattle.window.proofs.Window.{length-cells, length-bytes, length-stamps}
+use Rattle.expansion_rows.specs.Rows.{Row}
+use Rattle.expansion_rows.specs.Turns.{inverted, readStamp, writeStamp, valueAt, turnBytes, turnStamps, turnAccesses, rowOp, rowOps, passBytes, passStamps}
+use Rattle.expansion_rows.specs.Held.{heldBytes, heldStamps, heldAllBytes, heldAllStamps, heldAccesses}
+
+-- Joined
+
+pub flatMap-append : {A : Type 0} (f : A → List ℕ) (xs ys : List A) → flatMap f (xs ++ ys) ≡ flatMap f xs ++ flatMap f ys
+unfolding flatMap
+flatMap-append f [] ys = refl
+flatMap-append f (x ∷ xs) ys =
+    ap (λ (l : List ℕ). f x ++ l) (flatMap-append f xs ys) ∙ sym (append-assoc (f x) (flatMap f xs) (flatMap f ys))
+
+pub flatMap-one : {A : Type 0} (f : A → List ℕ) (x : A) → flatMap f (x ∷ []) ≡ f x
+unfolding flatMap
+flatMap-one f x = append-nil (f x)
+
+pub flatMap-more : {A : Type 0} (f : A → List ℕ) (x : A) (xs : List A) → flatMap f (x ∷ xs) ≡ f x ++ flatMap f xs
+unfolding flatMap
+flatMap-more f x xs = refl
+
+-- One turn
+
+module _ (c : Call) (w : ℕ) where
+  pub turn-bytes-length : (bytes : List ℕ) → length (turnBytes c w bytes) ≡ length bytes
+  unfolding turnBytes
+  turn-bytes-length bytes = length-bytes _ _ _ _ ∙ step (inverted c)
+    where
+      step : (b : Bool) → length (cond b (writeBytes bytes (c .dst) w (valueAt c w bytes)) bytes) ≡ length bytes
+      step true = length-bytes bytes (c .dst) w (valueAt c w bytes)
+      step false = refl
+
+  pub turn-stamps-length : (stamps : List ℕ) → length (turnStamps c w stamps) ≡ length stamps
+  unfolding turnStamps
+  turn-stamps-length stamps = length-stamps _ _ _ _ ∙ step (inverted c) _
+    where
+      step : (b : Bool) (t : ℕ) → length (cond b (writeStamps stamps (c .dst) w t) stamps) ≡ length stamps
+      step true t = length-stamps stamps (c .dst) w t
+      step false t = refl
+
+  pub turn-accesses-length : (m : Window) → length (turnAccesses c w m) ≡ 1 + bit (inverted c)
+  unfolding turnAccesses
+  turn-accesses-length m =
+      step (inverted c) (writeAccess m (c .dst) w (valueAt c w (m .bytes)) (writeStamp c)) (readAccess m (c .src) w (readStamp c))
+    where
+      step : (b : Bool) (x y : Access) → length (cond b (x ∷ []) [] ++ (y ∷ [])) ≡ 1 + bit b
+      step true x y = refl
+      step false x y = refl
+
+-- All turns
+
+pub row-ops-length : (rs : List Row) (bytes : List ℕ) → length (rowOps rs bytes) ≡ length rs
+unfolding rowOps
+row-ops-length [] bytes = refl
+row-ops-length (r ∷ rs) bytes = ap suc (row-ops-length rs (turnBytes (r .call) (r .width) bytes))
+
+pub pass-bytes-length : (rs : List Row) (bytes : List ℕ) → length (passBytes rs bytes) ≡ length bytes
+unfolding passBytes
+pass-bytes-length [] bytes = refl
+pass-bytes-length (r ∷ rs) bytes =
+    pass-bytes-length rs (turnBytes (r .call) (r .width) bytes) ∙ turn-bytes-length (r .call) (r .width) bytes
+
+pub pass-stamps-length : (rs : List Row) (stamps : List ℕ) → length (passStamps rs stamps) ≡ length stamps
+unfolding passStamps
+pass-stamps-length [] stamps = refl
+pass-stamps-length (r ∷ rs) stamps =
+    pass-stamps-length rs (turnStamps (r .call) (r .width) stamps) ∙ turn-stamps-length (r .call) (r .width) stamps
+
+-- Deferred writes
+
+pub held-bytes-length : (os : List Op) (bytes : List ℕ) → length (heldAllBytes os bytes) ≡ length bytes
+unfolding heldAllBytes
+held-bytes-length [] bytes = refl
+held-bytes-length (o ∷ os) bytes = held-bytes-length os (heldBytes o bytes) ∙ length-bytes bytes _ _ _
+
+pub held-stamps-length : (os : List Op) (stamps : List ℕ) → length (heldAllStamps os stamps) ≡ length stamps
+unfolding heldAllStamps
+held-stamps-length [] stamps = refl
+held-stamps-length (o ∷ os) stamps = held-stamps-length os (heldStamps o stamps) ∙ length-stamps stamps _ _ _
+
+pub held-accesses-length : (os : List Op) (m : Window) → length (heldAccesses os m) ≡ length os
+unfolding heldAccesses
+held-accesses-length [] m = refl
+held-accesses-length (o ∷ os) m =
+    ap suc (held-accesses-length os (windowOf (heldBytes o (m .bytes)) (heldStamps o (m .stamps))))
+
+-- Records
+
+pub op-length : (r : Row) (bytes : List ℕ) → length (opRecord (rowOp r bytes)) ≡ 16
+op-length r bytes = omega (arith, length-cells bytes (r .call .src) (r .width))

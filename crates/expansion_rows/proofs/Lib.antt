@@ -1,0 +1,6 @@
+pub mod Width
+pub mod RowList
+pub mod Lengths
+pub mod OneTurn
+pub mod ReadLoop
+pub mod WriteLoop

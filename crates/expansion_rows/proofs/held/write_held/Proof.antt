@@ -1,0 +1,50 @@
+-- `expansion_rows::held::write_held` meets its contract: the value, the width and the destination are those of the record. Assumes
+-- nothing.
+use borrow.Author.Needs.{needs}
+use mathlib.Core.Path.{sym, ap, _∙_}
+use mathlib.Core.List.{List}
+use Prim.Native.Nat.{ℕ}
+use denote.Ref.{now}
+use Rattle.copy_row.specs.Columns.{at}
+use Rattle.copy_row.specs.Calls.{opOf}
+use Rattle.access.specs.Access.{accessRecord}
+use Rattle.window.specs.Window.{windowOf, writeBytes, writeStamps, writeAccess}
+use Rattle.expansion_rows.proofs.held.write_held.Statement.{statement}
+use Rattle.expansion_rows.proofs.held.write_held.Tie as tie
+
+value-bytes-requires : tie.Need-value-bytes-requires
+value-bytes-requires c κs = ((c .before .before .before .before .pre) .1 .0, (c .before .before .before .before .pre) .0 .bytes)
+
+write-cells-requires : tie.Need-write-cells-requires
+write-cells-requires c κs =
+    ((c .before .before .before .before .before .before .before .before .before .before .pre) .0 .wide, (c .before .before .before .before .before .before .before .before .before .before .pre) .0 .dest, (c .before .before .before .before .before .before .before .before .before .before .pre) .1 .1, (c .before .before .before .before .before .before .before .before .before .before .pre) .1 .2)
+
+returns : tie.Need-returns
+returns c =
+    let a = (c .before .before .before .before .before .before .before .before .before .before .before .before .before .before .before .before .before .args) in
+    let op = now (a .op) in
+    let m = windowOf (now (a .bytes)) (now (a .stamps)) in
+    let w = (c .before .before .before .before .before .before .write-cells) .ensures in
+    let v = (c .before .before .before .before .before .before .before .before .before .before .before .before .value-bytes) .ensures in
+    let t = sym ((c .before .before .before .before .before .before .before .before .before .before .before .before .before .before .before .before .before .pre) .0 .stamp) in (
+      w .0 ∙ ap (λ (x : List ℕ). writeBytes (now (a .bytes)) (at op 2) (at op 4) x) v,
+      (
+        w .1 .0 ∙ ap (λ (x : ℕ). writeStamps (now (a .stamps)) (at op 2) (at op 4) x) t,
+        w .1 .1
+            ∙ ap (λ (x : List ℕ). accessRecord (writeAccess m (at op 2) (at op 4) x (a .stamp))) v
+            ∙ ap (λ (x : ℕ). accessRecord (writeAccess m (at op 2) (at op 4) (opOf op .piece .value) x)) t,
+      ),
+    )
+
+pub write-held-spec : {M : Type 1} → statement M
+write-held-spec =
+    tie.close
+    (tie.spec
+    value-bytes-requires
+    (λ c. search needs)
+    (λ c. search needs)
+    write-cells-requires
+    (λ c. search needs)
+    (λ c. search needs)
+    (λ c. search needs)
+    returns)

@@ -1,0 +1,33 @@
+-- What the code that moves bytes asks of its caller, and the refusals grant: the cells lie in the window, the stamps fit. Assumes
+-- nothing.
+use mathlib.Core.Path.{_≡_}
+use Prim.Native.Nat.{ℕ, _+_, _*_, _^_, _≤_, _<_}
+use mathlib.Core.List.{List}
+use lib.ListN.{length, getD}
+use Rattle.copy_row.specs.Calls.{Call, Op}
+use Rattle.copy_row.specs.Trace.{OP-WIDTH}
+use Rattle.access.specs.Access.{ACCESS-WIDTH}
+use Rattle.window.specs.Window.{windowOf}
+use Rattle.expansion_rows.specs.Rows.{rowsOf}
+use Rattle.expansion_rows.specs.Turns.{writeStamp, passAccesses}
+
+-- what remains of a call lies in a window of n cells; a Write has no destination there
+pub record CallInside (c : Call) (n : ℕ) : Type 0 where
+  pub source : c .src + c .count ≤ n
+  pub dest : (c .kind ≡ 2 → ⊥) → c .dst + c .count ≤ n
+  pub small : c .dst + c .count < 2 ^ 64
+  pub later : c .stamp + 1 < 2 ^ 64
+
+-- with room for what its rows' turns write
+pub record PassInside (c : Call) (bytes stamps ops accesses : List ℕ) : Type 0 where
+  pub call : CallInside c (length bytes)
+  pub window : length stamps ≡ length bytes
+  pub room : OP-WIDTH * length (rowsOf c) ≤ length ops
+  pub space : ACCESS-WIDTH * length (passAccesses (rowsOf c) (windowOf bytes stamps)) ≤ length accesses
+
+-- a deferred write at stamp t lies in a window of n cells
+pub record HeldInside (t n : ℕ) (o : Op) : Type 0 where
+  pub wide : o .piece .width ≤ 8
+  pub dest : o .call .dst + o .piece .width ≤ n
+  pub stamp : writeStamp (o .call) ≡ t
+  pub bytes : (i : ℕ) → i < 8 → getD (o .piece .value) i 0 < 256

@@ -1,0 +1,4 @@
+pub mod Rows
+pub mod Turns
+pub mod Held
+pub mod Inside

@@ -1,0 +1,109 @@
+-- Digits of any width: a number from its digits and back. Words, halves and bytes of a 64-bit number are the widths 32, 16 and 8.
+-- Document 01: "Facts on words, halves and bytes are shown with the width as a parameter". Assumes nothing.
+use mathlib.Core.Path.{_≡_, refl, sym, ap, _∙_}
+use mathlib.Core.List.{List, [], _∷_}
+use Prim.Native.Nat.{ℕ, zero, suc, _+_, _*_, _/_, _%_, _^_, _<_}
+use native.Mathlib.Nat.{mul-suc, mul-zero, mul-comm, add-comm, mod-one, mod-lt, mod-eq-of-lt, div-one, div-div-eq-div-mul}
+use native.Mathlib.Omega.{arith}
+use lib.ListN.{length, getD}
+use lib.Arith.{digits-lt}
+use lib.Pow.{pow-pos, pow-add, shr-shr}
+use Rattle.words.specs.Words.{digits, number, words, halves, bytes}
+use Rattle.words.proofs.Limbs.{mod-mul, low-limb, high-limb, Two, Four}
+
+-- each digit has w bits
+unfoldable pub Below : ℕ → List ℕ → Type 0
+Below w [] = Unit
+Below w (d ∷ ds) = (d < 2 ^ w) × Below w ds
+
+pub digits-length : (w n x : ℕ) → length (digits w n x) ≡ n
+digits-length w zero x = refl
+digits-length w (suc n) x = ap suc (digits-length w n (x / 2 ^ w))
+
+pub digits-below : (w n x : ℕ) → Below w (digits w n x)
+unfolding Below
+digits-below w zero x = tt
+digits-below w (suc n) x = (mod-lt x (pow-pos w), digits-below w n (x / 2 ^ w))
+
+pub below-at : (w : ℕ) (ds : List ℕ) (i : ℕ) → Below w ds → getD ds i 0 < 2 ^ w
+unfolding Below
+below-at w [] i b = pow-pos w
+below-at w (d ∷ ds) zero b = b .0
+below-at w (d ∷ ds) (suc i) b = below-at w ds i (b .1)
+
+power-suc : (w n : ℕ) → 2 ^ (w * suc n) ≡ 2 ^ w * 2 ^ (w * n)
+power-suc w n = ap (λ e. 2 ^ e) (mul-suc w n) ∙ pow-add 2 (w * n) w ∙ mul-comm (2 ^ (w * n)) (2 ^ w)
+
+-- a number modulo 2 ^ (w * n) from its n digits
+pub number-digits : (w n x : ℕ) → number w (digits w n x) ≡ x % 2 ^ (w * n)
+number-digits w zero x = rw (mul-zero, mod-one)
+number-digits w (suc n) x =
+    ap (λ r. x % 2 ^ w + 2 ^ w * r) (number-digits w n (x / 2 ^ w))
+    ∙ sym (mod-mul x (2 ^ w) (2 ^ (w * n)))
+    ∙ ap (λ m. x % m) (sym (power-suc w n))
+
+-- and the whole number, where it has no more bits
+pub number-whole : (w n x : ℕ) → x < 2 ^ (w * n) → number w (digits w n x) ≡ x
+number-whole w n x h = number-digits w n x ∙ mod-eq-of-lt h
+
+-- digits in range come back
+pub digits-number : (w : ℕ) (ds : List ℕ) → Below w ds → digits w (length ds) (number w ds) ≡ ds
+unfolding Below
+digits-number w [] b = refl
+digits-number w (d ∷ ds) b =
+    rw (low-limb (2 ^ w) d (number w ds) (b .0), high-limb (2 ^ w) d (number w ds) (b .0), digits-number w ds (b .1))
+
+pub number-lt : (w : ℕ) (ds : List ℕ) → Below w ds → number w ds < 2 ^ (w * length ds)
+unfolding Below
+number-lt w [] b = rw mul-zero (omega arith)
+number-lt w (d ∷ ds) b =
+    let e : d + 2 ^ w * number w ds ≡ number w ds * 2 ^ w + d = add-comm d (2 ^ w * number w ds) ∙ ap (λ t. t + d) (mul-comm (2 ^ w) (number w ds)) in
+    rw (mul-suc, pow-add, e) (digits-lt (number-lt w ds (b .1)) (b .0))
+
+-- digit i is what stands there, w * i bits up
+pub digit-at : (w n x i : ℕ) → i < n → getD (digits w n x) i 0 ≡ x / 2 ^ (w * i) % 2 ^ w
+digit-at w zero x i h = absurd (omega arith)
+digit-at w (suc n) x zero h = rw (mul-zero, div-one)
+digit-at w (suc n) x (suc i) h =
+    digit-at w n (x / 2 ^ w) i (omega arith)
+    ∙ ap (λ q. q % 2 ^ w) (shr-shr x w (w * i) ∙ ap (λ e. x / 2 ^ e) (add-comm w (w * i) ∙ sym (mul-suc w i)))
+
+-- Words, halves and bytes of a 64-bit number
+
+module _ (x : ℕ) (fits : x < 2 ^ 64) where
+  pub words-whole : number 32 (words x) ≡ x
+  words-whole = number-whole 32 2 x fits
+
+  pub halves-whole : number 16 (halves x) ≡ x
+  halves-whole = number-whole 16 4 x fits
+
+  pub bytes-whole : number 8 (bytes x) ≡ x
+  bytes-whole = number-whole 8 8 x fits
+
+  -- the digits that shifts take
+  pub halves-shifted : x % 2 ^ 16 ∷ x / 2 ^ 16 % 2 ^ 16 ∷ x / 2 ^ 32 % 2 ^ 16 ∷ x / 2 ^ 48 ∷ [] ≡ halves x
+  halves-shifted =
+      let top : x / 2 ^ 48 ≡ x / 2 ^ 48 % 2 ^ 16 = omega arith in
+      simp div-div-eq-div-mul (λ i. x % 2 ^ 16 ∷ x / 2 ^ 16 % 2 ^ 16 ∷ x / 2 ^ 32 % 2 ^ 16 ∷ top i ∷ [])
+
+  pub bytes-shifted : x % 2 ^ 8
+      ∷ x / 2 ^ 8 % 2 ^ 8
+      ∷ x / 2 ^ 16 % 2 ^ 8
+      ∷ x / 2 ^ 24 % 2 ^ 8
+      ∷ x / 2 ^ 32 % 2 ^ 8
+      ∷ x / 2 ^ 40 % 2 ^ 8
+      ∷ x / 2 ^ 48 % 2 ^ 8
+      ∷ x / 2 ^ 56
+      ∷ []
+      ≡ bytes x
+  bytes-shifted =
+      let top : x / 2 ^ 56 ≡ x / 2 ^ 56 % 2 ^ 8 = omega arith in
+      simp div-div-eq-div-mul
+      (λ i. x % 2 ^ 8 ∷ x / 2 ^ 8 % 2 ^ 8 ∷ x / 2 ^ 16 % 2 ^ 8 ∷ x / 2 ^ 24 % 2 ^ 8 ∷ x / 2 ^ 32 % 2 ^ 8 ∷ x / 2 ^ 40 % 2 ^ 8 ∷ x / 2 ^ 48 % 2 ^ 8 ∷ top i ∷ [])
+
+-- two limbs are the words, four are the halves
+pub words-two : (x a0 a1 : ℕ) → Two (2 ^ 32) x a0 a1 → a0 ∷ a1 ∷ [] ≡ words x
+words-two x a0 a1 t = λ i. t .l0 i ∷ t .l1 i ∷ []
+
+pub halves-four : (x a0 a1 a2 a3 : ℕ) → Four (2 ^ 16) x a0 a1 a2 a3 → a0 ∷ a1 ∷ a2 ∷ a3 ∷ [] ≡ halves x
+halves-four x a0 a1 a2 a3 f = λ i. f .l0 i ∷ f .l1 i ∷ f .l2 i ∷ f .l3 i ∷ []

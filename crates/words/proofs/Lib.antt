@@ -1,0 +1,3 @@
+pub mod Limbs
+pub mod Digits
+pub mod Wrap
