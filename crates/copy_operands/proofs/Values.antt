@@ -8,7 +8,7 @@ use lib.Dec.{lit<}
 use Rattle.field.specs.Field.{p, addP, mulP}
 use Rattle.copy_row.specs.Columns.{at, SINGLE}
 use Rattle.copy_residues.specs.Residues.{halvesWord, step}
-use Rattle.operands.specs.Elements.{ElementRow}
+use Rattle.copy_residues.specs.Cells.{Elements}
 use Rattle.operands.specs.Operands.{signedP, termValue, lowValue, highValue}
 use Rattle.operands.specs.Constructors.{fromDwordHl}
 use Rattle.operands.specs.declared.AddLinearTerm.the-variants.{Constant, Column}
@@ -24,13 +24,13 @@ module _ (row : List ℕ) where
   unfolding stepOperand
   step-high = sym (none-high row (Constant (pos 8) ∷ Column (negsuc 6) SINGLE ∷ []))
 
-  module _ (e : ElementRow row) (c : ℕ) where
+  module _ (e : Elements row) (c : ℕ) where
     pub word-low : halvesWord row c ≡ lowValue row (fromDwordHl c)
     unfolding halvesWord
-    word-low = sym (halves-low row c (e .elements c))
+    word-low = sym (halves-low row c (e .each c))
 
     pub word-high : halvesWord row (c + 2) ≡ highValue row (fromDwordHl c)
     unfolding halvesWord
     word-high =
         let next : c + 2 + 1 ≡ c + 3 = omega arith in
-        ap (λ k. addP (at row (c + 2)) (mulP 65536 (at row k))) next ∙ sym (halves-high row c (e .elements (c + 2)))
+        ap (λ k. addP (at row (c + 2)) (mulP 65536 (at row k))) next ∙ sym (halves-high row c (e .each (c + 2)))

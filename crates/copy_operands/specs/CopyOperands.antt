@@ -8,7 +8,7 @@ use lib.IntN.{pos, negsuc}
 use Rattle.field.specs.Field.{subP, mulP}
 use Rattle.copy_row.specs.Columns.{at, SRC, SRC-INCR, DST, DST-INCR, COUNT, COUNT-DECR, DST-RES, SINGLE, IS-SET, IS-WRITE, MU}
 use Rattle.copy_residues.specs.Residues.{residue, borrow}
-use Rattle.operands.specs.Elements.{ElementRow}
+use Rattle.copy_residues.specs.Cells.{Elements}
 use Rattle.operands.specs.Constructors.{dword, linear, constant, fromDwordHl}
 use Rattle.operands.specs.Answers.{pairAnswer, carryAnswer}
 use Rattle.operands.specs.declared.AddLinearTerm.the-variants.{Constant, Column}
@@ -43,4 +43,4 @@ pub record ResiduesArePairs (gap : ℕ) (row : List ℕ) : Type 0 where
 
 -- on every row of 41 elements, under every gap of 32 bits
 abbrev pub Statement : Type 0
-Statement = (gap : ℕ) → gap < 2 ^ 32 → (row : List ℕ) → ElementRow row → ResiduesArePairs gap row
+Statement = (gap : ℕ) → gap < 2 ^ 32 → (row : List ℕ) → Elements row → ResiduesArePairs gap row

@@ -3,14 +3,18 @@
 use mathlib.Core.Path.{_≡_, refl, sym, ap, _∙_, subst}
 use mathlib.Core.Bool.{Bool, true, false, cond, _&&_}
 use mathlib.Core.List.{List}
-use Prim.Native.Nat.{ℕ, _≤_, _<_}
+use Prim.Native.Nat.{ℕ, _+_, _≤_, _<_}
 use native.Mathlib.Omega.{arith}
-use borrow.Author.Tests.{eq-eqb, ne-eqb, lt-ltb, le-ltb, eqb-true, ltb-false}
+use borrow.Author.Tests.{eq-eqb, ne-eqb, lt-ltb, le-ltb, lt-leb, eqb-true, ltb-false}
 use lib.Dec.{eqb, ltb}
 use lib.ListN.{length}
 use Rattle.answer.specs.declared.Answer.{Answer}
-use Rattle.copy_row.specs.Columns.{COLUMNS}
-use Rattle.operands.specs.Elements.{firstLarge, ElementRow}
+use Rattle.field.specs.Field.{p}
+use Rattle.records.specs.Lists.{first}
+use Rattle.records.proofs.First.{first-all}
+use Rattle.copy_row.specs.Columns.{at, COLUMNS}
+use Rattle.copy_residues.specs.Range.{firstLarge}
+use Rattle.copy_residues.specs.Cells.{Elements}
 use Rattle.operands.specs.Answers.{faultOf, pairFault, pairAnswerOf, pairAnswer, carryAnswerOf, carryAnswer, PairNumbers, pairNumbers, carryNumbers}
 use Rattle.operands.specs.Operands.{conditionsInRow, operandsInRow}
 use Rattle.operands.specs.Pairs.{carryHi, residueLo, residueHi}
@@ -22,7 +26,7 @@ use Rattle.operands.specs.declared.PairAnswer.the-variants as pair
 use Rattle.operands.specs.declared.CarryAnswer.{CarryAnswer}
 use Rattle.operands.specs.declared.CarryAnswer.the-variants as carry
 use Rattle.operands.proofs.Every.{both}
-use Rattle.operands.proofs.Elements.{element-row, none-large}
+use Rattle.copy_residues.proofs.InRange.{large, elements}
 
 -- the four outcomes of a judgement, in the order of their tests
 module _ (inRow : Bool) (row : List ℕ) where
@@ -50,7 +54,7 @@ module _ (inRow : Bool) (row : List ℕ) where
 -- what a row is that is refused for nothing
 pub record Fine (inRow : Bool) (row : List ℕ) : Type 0 where
   pub in-row : inRow ≡ true
-  pub row-is : ElementRow row
+  pub row-is : Elements row
 
 number : PairFault → ℕ
 number fault.Fine = 0
@@ -71,14 +75,14 @@ is-fine true row e = wide (eqb (length row) COLUMNS) (ltb (firstLarge row) COLUM
     wide true false f g h =
         record {
           in-row = refl;
-          row-is = element-row row (eqb-true (length row) COLUMNS f) (ltb-false (firstLarge row) COLUMNS g);
+          row-is = elements row (eqb-true (length row) COLUMNS f) (ltb-false (firstLarge row) COLUMNS g);
         }
 
 -- and what conditions and operands are
 pub record PairFine (conditions : List ℕ) (lhs rhs sum : AddOperand) (row : List ℕ) : Type 0 where
   pub conditions-in : conditionsInRow conditions ≡ true
   pub operands-in : operandsInRow lhs rhs sum ≡ true
-  pub row-is : ElementRow row
+  pub row-is : Elements row
 
 pub pair-fine : (conditions : List ℕ) (lhs rhs sum : AddOperand) (row : List ℕ) → pairFault conditions lhs rhs sum row ≡ fault.Fine
     → PairFine conditions lhs rhs sum row
@@ -96,7 +100,15 @@ pub carry-case : (f g : PairFault) (c : ℕ) → f ≡ g → carryAnswerOf g c �
 carry-case f g c e = ap (λ x. carryAnswerOf x c) (sym e)
 
 -- what is answered where nothing is refused
-module _ (lhs rhs sum : AddOperand) (row : List ℕ) (r : ElementRow row) (o : operandsInRow lhs rhs sum ≡ true) where
+none-large : (row : List ℕ) → Elements row → COLUMNS ≤ firstLarge row
+unfolding firstLarge
+none-large row r =
+    let all : first (large row) 0 (length row) ≡ 0 + length row =
+    first-all (large row) 0 (length row) (λ c a b. lt-leb p (at row c) (r .each c))
+    in
+    omega (arith, r .wide)
+
+module _ (lhs rhs sum : AddOperand) (row : List ℕ) (r : Elements row) (o : operandsInRow lhs rhs sum ≡ true) where
   pub carry-accepted : carryAnswer lhs rhs sum row ≡ carry.Carry (carryHi row lhs rhs sum)
   unfolding carryAnswer carryAnswerOf
   carry-accepted =

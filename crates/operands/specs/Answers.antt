@@ -10,7 +10,7 @@ use lib.ListN.{length}
 use Rattle.answer.specs.declared.Answer.{Answer}
 use Rattle.answer.specs.Numbers.{accepted, refused}
 use Rattle.copy_row.specs.Columns.{COLUMNS}
-use Rattle.operands.specs.Elements.{firstLarge}
+use Rattle.copy_residues.specs.Range.{firstLarge}
 use Rattle.operands.specs.Operands.{operandsInRow, conditionsInRow}
 use Rattle.operands.specs.Pairs.{residueLo, residueHi, carryHi}
 use Rattle.operands.specs.declared.AddOperand.{AddOperand}

@@ -1,4 +1,3 @@
-pub mod Elements
 pub mod Operands
 pub mod Constructors
 pub mod Pairs

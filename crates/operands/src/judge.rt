@@ -5,13 +5,11 @@ use crate::AddOperand;
 use crate::OperandKind;
 use crate::PairFault;
 use crate::TermCell;
-use field::element::P;
+use copy_residues::range::first_large;
+use copy_row::cols::NUM_COLUMNS;
 ghost use mathlib.Core.Path.{_≡_};
-ghost use Rattle.operands.specs.Elements.{firstLarge};
 ghost use Rattle.operands.specs.Operands.{termInRow, sumInRow, operandInRow, operandsInRow, conditionsInRow};
 ghost use Rattle.operands.specs.Answers.{faultOf, pairFault};
-
-const NUM_COLUMNS: usize = 41;
 
 // Whether a term's column, where it has one, is in a copy row.
 fn term_in_row(t: AddLinearTerm) -> bool
@@ -79,20 +77,6 @@ fn conditions_in_row(conditions: &[u64]) -> bool
         k += 1;
     }
     true
-}
-
-// The lowest number that is no element, or the length.
-pub fn first_large(row: &[u64]) -> usize
-    ensures { λ r. ⌜ r ≡ firstLarge (now (row .entry)) ⌝ }
-{
-    let mut c = 0;
-    while c < row.len() {
-        if P <= row[c] {
-            return c;
-        }
-        c += 1;
-    }
-    c
 }
 
 // The first of 12, 13 and 14 that holds, given whether all columns are in the row and no sum has more than four terms.
