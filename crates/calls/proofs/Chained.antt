@@ -10,7 +10,7 @@ use Rattle.copy_row.specs.Calls.{Call, Piece, Op}
 use Rattle.copy_row.specs.Rows.{wrapped}
 use Rattle.copy_meaning.specs.Steps.{All, Move, empty, ends, more, LiveStep}
 use Rattle.calls.specs.Cuts.{CutCall, rest, isLast, cutFrom, opsOf, total, Fits}
-use Rattle.calls.specs.Chain.{Opens, Chain, ChainIff}
+use Rattle.calls.specs.OpChain.{Opens, Chain, ChainIff}
 use Rattle.calls.proofs.Cuts.{width-pos, Ways, whole, single, cut-none, cut-ways, cut-whole, unwrapped}
 use Rattle.calls.proofs.Parse.{parse}
 

@@ -11,7 +11,7 @@ use Rattle.copy_row.specs.Calls.{Piece, Op}
 use Rattle.copy_row.specs.Rows.{wrapped}
 use Rattle.copy_meaning.specs.Steps.{All, PieceOk}
 use Rattle.calls.specs.Cuts.{CutCall, rest, total, Cut, Fits}
-use Rattle.calls.specs.Chain.{HasRow}
+use Rattle.calls.specs.OpChain.{HasRow}
 
 pub width-pos : {piece : Piece} → PieceOk piece → 0 < piece .width
 width-pos ok = elim (ok .wide) [ inl e ↦ omega arith | inr e ↦ omega arith ]

@@ -7,7 +7,7 @@ use native.Mathlib.Omega.{arith}
 use lib.ListN.{length}
 use Rattle.copy_row.specs.Calls.{Call, Piece, Op}
 use Rattle.calls.specs.Cuts.{rest, cutFrom, opsOf}
-use Rattle.calls.specs.Chain.{withNext, group, GroupIs, firsts, callsOf, FirstsAre}
+use Rattle.calls.specs.OpChain.{withNext, group, GroupIs, firsts, callsOf, FirstsAre}
 
 group-from : (c : Call) (f : ℕ) (piece : Piece) (pieces : List Piece) (t : List Op)
     → group (cutFrom c f (piece ∷ pieces) ++ t) ≡ record { call = c; pieces = piece ∷ pieces } ∷ group t

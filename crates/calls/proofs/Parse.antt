@@ -10,7 +10,7 @@ use Rattle.copy_row.specs.Calls.{Call, Piece, Op}
 use Rattle.copy_row.specs.Rows.{wrapped}
 use Rattle.copy_meaning.specs.Steps.{All, Move, empty, ends, more, LiveStep}
 use Rattle.calls.specs.Cuts.{CutCall, rest, cutFrom, opsOf, Cut, Fits}
-use Rattle.calls.specs.Chain.{next, Opens, Chain}
+use Rattle.calls.specs.OpChain.{next, Opens, Chain}
 use Rattle.calls.proofs.Cuts.{width-pos, whole, single, cut-none, cut-ways, cut-whole, cut-single, unwrapped}
 
 -- the records are those of the call c, whose first one has FIRST f, and of whole calls after it

@@ -1,2 +1,2 @@
 pub mod Cuts
-pub mod Chain
+pub mod OpChain

@@ -1,4 +1,13 @@
-// The chain check.
+// The chain check: whether a list of copy rows, which anybody may have filled in, is whole calls. Document 01: "Chain check and read-back
+// (added)". A row list has no limit. Assumes nothing.
+pub mod check;
+pub mod link;
+
+use answer::Answer;
+use answer::accept;
+use answer::refuse;
+ghost use mathlib.Core.Path.{_≡_};
+ghost use Rattle.chain.specs.Chain.{chainAnswer, chainNumbers};
 
 pub enum ChainAnswer {
     Passed { rows: u64 },
@@ -16,4 +25,31 @@ pub enum ChainAnswer {
     LinkBroken { row: u64 },
     // 18: the list ends on a live row without END
     NotEnded { rows: u64 },
+}
+
+// Checks a list of rows of 41 numbers under a gap: how many rows it has, or the first check that fails.
+pub fn chain_check(gap: u64, rows: &[u64]) -> ChainAnswer
+    ensures answer { λ r. ⌜ chainNumbers r ≡ chainNumbers (chainAnswer gap (now (rows .entry))) ⌝ }
+{
+    check::check(gap, rows)
+}
+
+// Document 01's number, place and value of an answer; 16 has the residue's index for its value.
+pub fn chain_numbers(a: ChainAnswer) -> Answer
+    ensures { λ r. ⌜ r ≡ chainNumbers a ⌝ }
+{
+    match a {
+        ChainAnswer::Passed { rows } => accept(rows),
+        ChainAnswer::GapTooLarge => refuse(7, 0),
+        ChainAnswer::NotRows => refuse(13, 0),
+        ChainAnswer::BadElement { row } => refuse(14, row),
+        ChainAnswer::BadRange { row } => refuse(15, row),
+        ChainAnswer::BadResidue { row, index } => Answer {
+            number: 16,
+            place: row,
+            value: index,
+        },
+        ChainAnswer::LinkBroken { row } => refuse(17, row),
+        ChainAnswer::NotEnded { rows } => refuse(18, rows),
+    }
 }

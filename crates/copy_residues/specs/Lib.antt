@@ -1,3 +1,6 @@
 pub mod Range
 pub mod Residues
+pub mod Cells
 pub mod RowCheck
+pub mod Answers
+pub mod Examples

@@ -17,7 +17,7 @@ use Rattle.copy_meaning.specs.RowIff.{CallRow}
 use Rattle.copy_meaning.proofs.ReadBack.{eight-back, call-back, src-incr-back}
 use Rattle.chain.specs.Chain.{rowsOf}
 use Rattle.calls.specs.Cuts.{CutCall, rest, isLast, cutFrom, opsOf, Fits}
-use Rattle.calls.specs.Chain.{group}
+use Rattle.calls.specs.OpChain.{group}
 use Rattle.calls.proofs.Cuts.{fits-has-row}
 use Rattle.demand.specs.Demand.{liveRows, Each, WholeCalls, AnyPiece, AnyCall}
 use Rattle.demand.proofs.MadeRows.{src-modulo, row-marks}

@@ -16,7 +16,7 @@ use Rattle.chain.specs.Chain.{chainAnswer}
 use Rattle.chain.specs.declared.ChainAnswer.{ChainAnswer}
 use Rattle.chain.specs.declared.ChainAnswer.the-variants.{Passed, GapTooLarge}
 use Rattle.calls.specs.Cuts.{CutCall, opsOf, Fits}
-use Rattle.calls.specs.Chain.{callsOf}
+use Rattle.calls.specs.OpChain.{callsOf}
 use Rattle.read_back.specs.ReadBack.{callNumbers}
 use Rattle.demand.specs.Demand.{Passes, ReadsBack, Demand3}
 use Rattle.demand.proofs.Verdict.{Accepted}

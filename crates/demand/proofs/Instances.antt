@@ -1,6 +1,6 @@
 -- The instances hold, by computing. Assumes nothing.
 use mathlib.Core.Path.{refl}
-use mathlib.Core.List.{flatMap}
+use mathlib.Core.List.{[], _∷_, flatMap}
 use mathlib.Core.Logic.{inl, inr}
 use Prim.Native.Nat.{ℕ, _<_}
 use native.Mathlib.Omega.{arith}
@@ -16,12 +16,14 @@ use Rattle.copy_residues.specs.Range.{columnLimits, firstLarge, firstOut}
 use Rattle.copy_residues.specs.Residues.{halvesWord, step, incrLow, incrHigh, decrLow, decrHigh, resLow, resHigh, gapLow, gapHigh, borrow, impliesMu, oneHot, firstWrite, gatedBit, dstResNonWrite, singleLane, borrowImplies, borrowImpliesZero, endImplies, muComIs, muComWideIs, noWrap, gapNoWrap, residue}
 use Rattle.copy_residues.specs.RowCheck.{firstResidue, rowFault}
 use Rattle.copy_meaning.specs.Steps.{All, PieceOk}
+use Rattle.copy_meaning.proofs.Check.{fine-passing}
 use Rattle.chain.specs.Link.{same, linked, before}
 use Rattle.chain.specs.Chain.{rowsFrom, chainFrom, chainAnswer}
 use Rattle.calls.specs.Cuts.{Fits}
 use Rattle.read_back.specs.ReadBack.{opsCount, callsCount, readOps, readCalls, roomAnswer, readBackAnswer}
-use Rattle.demand.specs.Demand.{AnyCall}
-use Rattle.demand.specs.Instances.{wide, narrow, threeKinds, unsound, Instances}
+use Rattle.demand.specs.Demand.{DeadRow, WholeCalls, AnyCall}
+use Rattle.demand.specs.Instances.{wide, narrow, threeKinds, deadRow, rows, unsound, Instances}
+use Rattle.demand.proofs.Whole.{whole-calls}
 
 wide-ok : (byte : ℕ) → byte < 256 → PieceOk (wide byte)
 wide-ok byte h = record { wide = inr refl; eight = refl; bytes = omega arith; tail = λ e. absurd (omega arith) }
@@ -61,6 +63,18 @@ unsound-any =
       row = omega arith;
     }
 
+dead-row : DeadRow 8 deadRow
+unfolding paddingRow addP subP mulP bitP carryP carryLow carryHigh first columnLimits firstLarge firstOut halvesWord step incrLow incrHigh decrLow
+    decrHigh resLow resHigh gapLow gapHigh borrow impliesMu oneHot firstWrite gatedBit dstResNonWrite singleLane borrowImplies
+    borrowImpliesZero endImplies muComIs muComWideIs noWrap gapNoWrap residue firstResidue rowFault
+dead-row =
+    let q = fine-passing 8 deadRow refl in
+    record { dead = refl; range = q .range; zeroes = q .zeroes }
+
+rows-whole : WholeCalls 8 rows threeKinds
+unfolding paddingRow flatMap rowOf rowsFrom
+rows-whole = whole-calls 8 (omega arith) rows refl threeKinds three-fit (deadRow ∷ []) (dead-row, tt) refl
+
 pub instances : Instances
 unfolding flatMap addP subP mulP bitP carryP carryLow carryHigh store flat picked counted first firstAbove within firstBad doubled rowCount
     tableAnswer rowAt tableAfter rowOf paddingRow opLimits copyAnswer copyAfter columnLimits firstLarge firstOut halvesWord step incrLow
@@ -72,6 +86,7 @@ instances =
       passes = refl;
       empty = refl;
       sound = three-fit;
+      whole = rows-whole;
       ops = refl;
       calls = refl;
       read = refl;

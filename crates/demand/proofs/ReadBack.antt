@@ -23,7 +23,7 @@ use Rattle.chain.specs.Chain.{chainAnswer, chainNumbers}
 use Rattle.chain.specs.declared.ChainAnswer.{ChainAnswer}
 use Rattle.chain.specs.declared.ChainAnswer.the-variants.{Passed, GapTooLarge, NotRows, BadElement, BadRange, BadResidue, LinkBroken, NotEnded}
 use Rattle.calls.specs.Cuts.{CutCall, opsOf}
-use Rattle.calls.specs.Chain.{ifFirst, firsts, callsOf}
+use Rattle.calls.specs.OpChain.{ifFirst, firsts, callsOf}
 use Rattle.calls.proofs.Cuts.{all-have-rows}
 use Rattle.calls.proofs.Chained.{chain}
 use Rattle.calls.proofs.Group.{firsts-are}

@@ -25,7 +25,7 @@ use Rattle.chain.specs.Link.{Before, closed, unended, dead, same, shown, handed
 use Rattle.chain.specs.Chain.{onFault, chainFrom, chainNumbers}
 use Rattle.chain.specs.declared.ChainAnswer.{ChainAnswer}
 use Rattle.chain.specs.declared.ChainAnswer.the-variants.{Passed, LinkBroken}
-use Rattle.calls.specs.Chain.{unlessEnd, next, Opens, Chain}
+use Rattle.calls.specs.OpChain.{unlessEnd, next, Opens, Chain}
 use Rattle.demand.proofs.MadeRows.{row-mu}
 
 -- Tests of lists

@@ -23,7 +23,7 @@ use Rattle.chain.specs.Chain.{rowsOf, chainFrom, chainAnswer, chainNumbers}
 use Rattle.chain.specs.declared.ChainAnswer.{ChainAnswer}
 use Rattle.chain.specs.declared.ChainAnswer.the-variants.{Passed, NotRows}
 use Rattle.calls.specs.Cuts.{CutCall, opsOf, Fits}
-use Rattle.calls.specs.Chain.{next, Chain}
+use Rattle.calls.specs.OpChain.{next, Chain}
 use Rattle.calls.proofs.Parse.{parse}
 use Rattle.calls.proofs.Chained.{chain}
 use Rattle.demand.specs.Demand.{Passes, liveRows, DeadRow, Each, WholeCalls}

@@ -18,7 +18,7 @@ use Rattle.copy_meaning.specs.RowIff.{InRange, CallRow}
 use Rattle.chain.specs.Chain.{rowsOf, chainAnswer, chainNumbers}
 use Rattle.chain.specs.declared.ChainAnswer.the-variants.{Passed}
 use Rattle.calls.specs.Cuts.{CutCall, opsOf, Fits}
-use Rattle.calls.specs.Chain.{HasRow, callsOf}
+use Rattle.calls.specs.OpChain.{HasRow, callsOf}
 use Rattle.read_back.specs.ReadBack.{CALL-WIDTH, callNumbers, readBackAnswer, opsAfter, callsAfter, readBackNumbers}
 use Rattle.read_back.specs.declared.ReadBackAnswer.the-variants.{Read, BufferShort}
 

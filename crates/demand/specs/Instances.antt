@@ -14,10 +14,10 @@ use Rattle.copy_meaning.specs.Steps.{All}
 use Rattle.chain.specs.Chain.{chainAnswer}
 use Rattle.chain.specs.declared.ChainAnswer.the-variants.{Passed, GapTooLarge, NotRows, BadElement, BadRange, BadResidue, LinkBroken, NotEnded}
 use Rattle.calls.specs.Cuts.{CutCall, opsOf, Fits}
-use Rattle.calls.specs.Chain.{callsOf}
+use Rattle.calls.specs.OpChain.{callsOf}
 use Rattle.read_back.specs.ReadBack.{callNumbers, readOps, readCalls, readBackAnswer}
 use Rattle.read_back.specs.declared.ReadBackAnswer.the-variants.{Read, BufferShort}
-use Rattle.demand.specs.Demand.{AnyCall}
+use Rattle.demand.specs.Demand.{WholeCalls, AnyCall}
 
 abbrev pub wide : ℕ → Piece
 wide byte = record { width = 8; value = replicate 8 byte }
@@ -60,6 +60,7 @@ pub record Instances : Type 0 where
   pub passes : chainAnswer 8 rows ≡ Passed 5
   pub empty : chainAnswer 8 [] ≡ Passed 0
   pub sound : All (Fits 8) threeKinds
+  pub whole : WholeCalls 8 rows threeKinds
   -- read-back of the first, with buffers just long enough, and one short
   pub ops : readOps rows ≡ records
   pub calls : readCalls rows ≡ flatMap callNumbers (callsOf threeKinds)

@@ -2,6 +2,8 @@
 use mathlib.Core.Path.{refl}
 use Rattle.field.specs.Field.{mulP}
 use Rattle.records.specs.RowCount.{rowCount, doubled}
+use Rattle.copy_residues.proofs.Examples.{residue-examples}
+use Rattle.memw_rows.proofs.Examples.{carry-examples}
 use Rattle.examples.specs.Examples.{StarredExamples}
 
 pub starred-examples : StarredExamples
@@ -12,4 +14,6 @@ starred-examples =
       five-records = refl;
       minus-one-squared = refl;
       word-squared = refl;
+      residues = residue-examples;
+      carries = carry-examples;
     }

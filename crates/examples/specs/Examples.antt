@@ -4,6 +4,8 @@ use mathlib.Core.Path.{_≡_}
 use Prim.Native.Nat.{ℕ, _-_, _^_}
 use Rattle.field.specs.Field.{p, mulP}
 use Rattle.records.specs.RowCount.{rowCount}
+use Rattle.copy_residues.specs.Examples.{ResidueExamples}
+use Rattle.memw_rows.specs.CarryExamples.{CarryExamples}
 
 pub record StarredExamples : Type 0 where
   -- "0 records: 4 rows; 5: 8"
@@ -13,3 +15,7 @@ pub record StarredExamples : Type 0 where
   pub minus-one-squared : mulP (p - 1) (p - 1) ≡ 1
   -- "2^32 × 2^32 = 4294967295"
   pub word-squared : mulP (2 ^ 32) (2 ^ 32) ≡ 4294967295
+  -- the rows made from Copy records, and the dead row
+  pub residues : ResidueExamples
+  -- CARRY at the top of the low address word
+  pub carries : CarryExamples

@@ -7,6 +7,7 @@ ghost use lib.ListN.{length};
 ghost use Rattle.field.specs.Answers.{addAnswer, subAnswer, mulAnswer, fieldNumbers};
 ghost use Rattle.records.specs.Table.{tableNumbers};
 ghost use Rattle.copy_row.specs.Trace.{copyAnswer, copyAfter};
+ghost use Rattle.copy_residues.specs.Answers.{residueAnswer, residueNumbers};
 
 // a + b modulo p, or 14.
 #[no_mangle]
@@ -39,4 +40,12 @@ pub extern "C" fn generate_copy_trace(ops: &[u64], table: &mut [u64]) -> Answer
     ensures table { λ r. ⌜ now (table .exit) ≡ copyAfter (now (ops .entry)) (copyAnswer 65536 (now (ops .entry)) (length (now (table .entry)))) (now (table .entry)) ⌝ }
 {
     records::numbers(8, copy_row::generate_copy_trace(ops, table))
+}
+
+// Residue `number` of a copy row under a gap, or 7, 12, 13, 14.
+#[no_mangle]
+pub extern "C" fn copy_residue(gap: u64, row: &[u64], number: u64) -> Answer
+    ensures answer { λ r. ⌜ r ≡ residueNumbers (residueAnswer gap (now (row .entry)) number) ⌝ }
+{
+    copy_residues::residue_numbers(copy_residues::residue(gap, row, number))
 }

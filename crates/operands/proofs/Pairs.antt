@@ -5,7 +5,7 @@ use Prim.Native.Nat.{ℕ}
 use borrow.Author.Tests.{eq-eqb, ne-eqb}
 use lib.ListN.{length}
 use Rattle.field.specs.Field.{mulP, bitP}
-use Rattle.field.specs.Carry.{carryLow, carryHigh}
+use Rattle.field.specs.Carries.{carryLow, carryHigh}
 use Rattle.operands.specs.Operands.{lowValue, highValue}
 use Rattle.operands.specs.Pairs.{carryLo, carryHi, conditionSum, gated, residueLo, residueHi}
 use Rattle.operands.specs.declared.AddOperand.{AddOperand}

@@ -13,7 +13,7 @@ ghost use mathlib.Core.Bool.{true};
 ghost use Prim.Native.Nat.{_<_};
 ghost use lib.ListN.{length};
 ghost use Rattle.field.specs.Field.{p};
-ghost use Rattle.field.specs.Carry.{carryLow, carryHigh};
+ghost use Rattle.field.specs.Carries.{carryLow, carryHigh};
 ghost use Rattle.copy_row.specs.Columns.{COLUMNS};
 ghost use Rattle.operands.specs.Elements.{ElementRow};
 ghost use Rattle.operands.specs.Operands.{signedP, termValue, termsValue, lowValue, highValue, termInRow, sumInRow, operandInRow, operandsInRow, conditionsInRow};

@@ -3,9 +3,11 @@
 use mathlib.Core.Path.{_≡_, refl, sym, ap}
 use mathlib.Core.Logic.{_≢_}
 use mathlib.Core.Bool.{Bool, true, false, cond}
-use mathlib.Core.List.{List, _++_}
+use mathlib.Core.List.{List, [], _∷_, _++_}
 use Prim.Native.Nat.{ℕ, _+_, _-_, _*_, _≤_, _<_}
 use native.Mathlib.Omega.{arith}
+use denote.Enum.Declared.{tagOf}
+use types.Run.{OneOf, miss}
 use borrow.Author.Tests.{lt-ltb, le-ltb, le-leb, lt-leb, leb-true, ltb-true, ltb-false}
 use lib.Dec.{ltb, leb}
 use lib.ListN.{length, take, drop}
@@ -16,6 +18,7 @@ use Rattle.records.specs.Lists.{store, flat}
 use Rattle.records.specs.Records.{recordCount, recordAt, firstBad}
 use Rattle.records.specs.RowCount.{rowCount}
 use Rattle.records.specs.Table.{tableAnswer, rowAt, tableAfter, tableNumbers}
+use Rattle.records.proofs.TableAnswer.{the-type}
 use Rattle.records.proofs.Store.{length-store, drop-store}
 use Rattle.records.proofs.Flat.{flat-length, flat-row, flat-placed}
 use Rattle.records.proofs.Records.{all-good}
@@ -150,3 +153,12 @@ after-length w row padding l (Made rows) table = length-store table 0 _
 after-length w row padding l TooManyRecords table = refl
 after-length w row padding l (BadRecord place) table = refl
 after-length w row padding l BufferShort table = refl
+
+-- a refusal writes nothing; its case is not the first, which is Made
+pub refused-keeps : (w : ℕ) (row : List ℕ → List ℕ) (padding l table : List ℕ) (answer : TableAnswer)
+    → OneOf (1 ∷ 2 ∷ 3 ∷ []) (tagOf the-type answer) → table ≡ tableAfter w row padding l answer table
+unfolding tableAfter
+refused-keeps w row padding l table (Made rows) h = absurd (miss (1 ∷ 2 ∷ 3 ∷ []) 0 tt h)
+refused-keeps w row padding l table TooManyRecords h = refl
+refused-keeps w row padding l table (BadRecord place) h = refl
+refused-keeps w row padding l table BufferShort h = refl

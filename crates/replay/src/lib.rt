@@ -3,7 +3,7 @@
 use answer::Answer;
 ghost use lib.ListN.{length};
 ghost use Rattle.io.specs.Counts.{Counts};
-ghost use Prim.Native.Nat.{_≤_};
+ghost use Prim.Native.Nat.{_≤_, _<_};
 
 // value with one more decimal digit, or 0 where that has more than 64 bits.
 fn with_digit(value: u64, digit: u8) -> u64 {
@@ -68,6 +68,35 @@ pub fn numbers_of(text: &[u8], out: &mut [u64]) -> usize
     count
 }
 
+// The index after the list that starts at `at`: its length stands there, and its numbers follow. The end of all numbers where they are
+// too few.
+pub fn after_list(numbers: &[u64], at: usize) -> usize
+    requires { ⌜ at < length (now numbers) ⌝ }
+    ensures { λ r. ⌜ (at < r) × (r ≤ length (now (numbers .entry))) ⌝ }
+{
+    let size = numbers[at];
+    let left = numbers.len() - at - 1;
+    if (left as u64) < size {
+        return numbers.len();
+    }
+    at + 1 + size as usize
+}
+
+// Copies a list to the start of a buffer, as far as it has room; answers how many numbers there are.
+pub fn load(list: &[u64], buffer: &mut [u64]) -> usize
+    ensures { λ r. ⌜ Counts r (now (buffer .exit)) ⌝ }
+{
+    let mut i = 0;
+    while i < list.len() {
+        if buffer.len() <= i {
+            return i;
+        }
+        buffer[i] = list[i];
+        i += 1;
+    }
+    i
+}
+
 // Prints a number and a line end.
 pub fn print(n: u64) {
     io::print_decimal(1, n);
@@ -79,6 +108,12 @@ pub fn print_answer(a: Answer) {
     print(a.number);
     print(a.place);
     print(a.value);
+}
+
+// Prints a list's length and its numbers.
+pub fn print_list(numbers: &[u64]) {
+    print(numbers.len() as u64);
+    print_all(numbers);
 }
 
 // Prints the numbers of a list.

@@ -1,17 +1,12 @@
 -- `replay::numbers_of` meets its contract: no more numbers are stored than out has room for. Assumes nothing.
-use mathlib.Core.Path.{_≡_, sym}
-use mathlib.Core.List.{List}
-use lib.Seq.{length-take-le}
-use Rattle.io.specs.Counts.{Counts}
-use Prim.Native.Nat.{ℕ, _≤_, _-_}
+use mathlib.Core.Path.{_≡_}
+use Rattle.replay.proofs.Counted.{counts}
+use Prim.Native.Nat.{_≤_, _-_}
 use native.Mathlib.Omega.{arith}
 use lib.ListN.{length, length-set}
 use borrow.Author.Needs.{needs}
 use Rattle.replay.proofs.numbers_of.Statement.{statement}
 use Rattle.replay.proofs.numbers_of.Tie as tie
-
-counts : (n : ℕ) (xs : List ℕ) → n ≤ length xs → Counts n xs
-counts n xs h = (h, sym (length-take-le n xs h))
 
 abbrev Inv-loop : tie.InvT-loop
 Inv-loop text out₀ count₀ at₀ out count at = (length out ≡ length out₀) × (count ≤ length out) × (at ≤ length text)

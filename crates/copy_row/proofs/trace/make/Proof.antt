@@ -1,30 +1,18 @@
 -- `copy_row::trace::make` meets its contract. Where the answer is Made, what it says of the records and the table is what `write_rows`
 -- requires; any other answer leaves the table as it was. Assumes nothing.
-use mathlib.Core.Path.{_≡_, refl, sym, ap, _∙_}
-use mathlib.Core.List.{List, [], _∷_}
+use mathlib.Core.Path.{sym, ap, _∙_}
+use mathlib.Core.List.{List}
 use Prim.Native.Nat.{ℕ}
 use borrow.Author.Needs.{needs}
-use denote.Enum.Declared.{tagOf}
 use denote.Ref.{now}
-use types.Run.{OneOf, miss}
 use lib.ListN.{length}
-use Rattle.records.specs.Table.{tableAfter}
 use Rattle.records.specs.declared.TableAnswer.{TableAnswer}
-use Rattle.records.specs.declared.TableAnswer.the-variants.{Made, TooManyRecords, BadRecord, BufferShort}
-use Rattle.records.proofs.TableAnswer.{the-type}
-use Rattle.copy_row.specs.Trace.{copyAfter}
+use Rattle.records.proofs.Table.{refused-keeps}
+use Rattle.copy_row.specs.Rows.{paddingRow}
+use Rattle.copy_row.specs.Trace.{OP-WIDTH, copyRow, copyAfter}
 use Rattle.copy_row.proofs.CopyTable.{made-facts, made-whole}
 use Rattle.copy_row.proofs.trace.make.Statement.{statement}
 use Rattle.copy_row.proofs.trace.make.Tie as tie
-
--- a refusal writes nothing; its case is not the first, which is Made
-refused-keeps : (ops table : List ℕ) (answer : TableAnswer) → OneOf (1 ∷ 2 ∷ 3 ∷ []) (tagOf the-type answer)
-    → table ≡ copyAfter ops answer table
-unfolding copyAfter tableAfter
-refused-keeps ops table (Made rows) h = absurd (miss (1 ∷ 2 ∷ 3 ∷ []) 0 tt h)
-refused-keeps ops table TooManyRecords h = refl
-refused-keeps ops table (BadRecord place) h = refl
-refused-keeps ops table BufferShort h = refl
 
 write-rows-requires : tie.Need-write-rows-requires
 write-rows-requires c κs =
@@ -44,11 +32,12 @@ returns c =
     (made, c .before .before .write-rows .ensures ∙ ap after made)
 
 returns-2 : tie.Need-returns-2
+unfolding copyAfter
 returns-2 c =
     let args = c .before .before .before .before .args in
     let answered = c .before .copy-answer .ensures in
     let after : TableAnswer → List ℕ = λ a. copyAfter (now (args .ops)) a (now (args .table)) in
-    (answered, refused-keeps (now (args .ops)) (now (args .table)) _ (c .match .keys2) ∙ ap after answered)
+    (answered, refused-keeps OP-WIDTH copyRow paddingRow (now (args .ops)) (now (args .table)) _ (c .match .keys2) ∙ ap after answered)
 
 pub make-spec : {M : Type 1} → statement M
 make-spec =

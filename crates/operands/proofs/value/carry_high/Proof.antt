@@ -1,6 +1,6 @@
 -- `value::carry_high`: computed as it is defined. Assumes nothing.
 use borrow.Author.Needs.{needs}
-use Rattle.field.specs.Carry.{carryP, carryHigh}
+use Rattle.field.specs.Carries.{carryP, carryHigh}
 use Rattle.operands.proofs.value.carry_high.Statement.{statement}
 use Rattle.operands.proofs.value.carry_high.Tie as tie
 

@@ -1,6 +1,6 @@
 -- `value::carry_low`: computed as it is defined. Assumes nothing.
 use borrow.Author.Needs.{needs}
-use Rattle.field.specs.Carry.{carryP, carryLow}
+use Rattle.field.specs.Carries.{carryP, carryLow}
 use Rattle.operands.proofs.value.carry_low.Statement.{statement}
 use Rattle.operands.proofs.value.carry_low.Tie as tie
 

@@ -1,0 +1,24 @@
+-- The row before as the code holds it: a slice of its own, with no number in it where there is no row before. Assumes nothing.
+use mathlib.Core.Path.{_≡_}
+use mathlib.Core.Bool.{Bool, true, false}
+use mathlib.Core.List.{List, [], _∷_}
+use Prim.Native.Nat.{ℕ, _<_}
+use lib.ListN.{length}
+use Rattle.copy_row.specs.Columns.{COLUMNS}
+use Rattle.plain_row.specs.Tests.{Fits}
+use Rattle.chain.specs.Link.{Before, closed, unended, dead, before}
+
+-- what it is to the row after it
+unfoldable pub standing : List ℕ → Before
+standing [] = closed
+standing (x ∷ xs) = before (x ∷ xs)
+
+-- none, or a row whose columns lie below their caps
+unfoldable pub Stood : List ℕ → Type 0
+Stood previous = 0 < length previous → (length previous ≡ COLUMNS) × Fits previous
+
+-- a live row without END
+abbrev pub isUnended : Before → Bool
+isUnended closed = false
+isUnended (unended previous) = true
+isUnended dead = false

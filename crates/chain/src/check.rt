@@ -1,0 +1,62 @@
+// Internal to the workspace, not open to callers: the chain check itself. Document 01: "chain check 7, 13, then row by row 14 to 17, then
+// 18". Assumes nothing.
+ghost use mathlib.Core.Path.{_≡_};
+ghost use Rattle.chain.specs.Chain.{chainAnswer};
+use crate::ChainAnswer;
+use crate::link::linked;
+use crate::link::unended;
+use copy_residues::parts::parts_of;
+use copy_residues::range::first_large;
+use copy_residues::range::first_out;
+use copy_residues::residues::residue_with;
+use plain_row::row::is_plain;
+
+// "The check stops at the first row and, in it, the first check that fails": nested loops over rows and residues, left by a label with row
+// and index. "A row is a run of 41 numbers of the list": each row is a slice of its own. A row that is right on plain numbers has nothing
+// to name; any other goes through 14, 15 and its residues by number, and is the last one looked at.
+pub fn check(gap: u64, rows: &[u64]) -> ChainAnswer
+    ensures { λ r. ⌜ r ≡ chainAnswer gap (now (rows .entry)) ⌝ }
+{
+    if 0x1_0000_0000 <= gap {
+        return ChainAnswer::GapTooLarge;
+    }
+    if rows.len() % 41 != 0 {
+        return ChainAnswer::NotRows;
+    }
+    let n = rows.len() / 41;
+    let mut previous = &rows[0..0];
+    let mut k: usize = 0;
+    'rows: loop {
+        if n <= k {
+            if unended(previous) {
+                break 'rows ChainAnswer::NotEnded { rows: k as u64 };
+            }
+            break 'rows ChainAnswer::Passed { rows: k as u64 };
+        }
+        let row = &rows[41 * k..41 * k + 41];
+        if !is_plain(gap, row) {
+            if first_large(row) < 41 {
+                break 'rows ChainAnswer::BadElement { row: k as u64 };
+            }
+            if first_out(row) < 41 {
+                break 'rows ChainAnswer::BadRange { row: k as u64 };
+            }
+            let parts = parts_of(gap, row);
+            let mut i: u64 = 0;
+            while i < 40 {
+                if residue_with(row, parts, i) != 0 {
+                    break 'rows ChainAnswer::BadResidue {
+                        row: k as u64,
+                        index: i,
+                    };
+                }
+                i += 1;
+            }
+        }
+        if !linked(previous, row) {
+            break 'rows ChainAnswer::LinkBroken { row: k as u64 };
+        }
+        previous = row;
+        k += 1;
+    }
+}

@@ -1,0 +1,85 @@
+// Internal to the workspace, not open to callers: whether a row may stand where it stands. Document 01: "A live row must have FIRST if it
+// opens the list or follows END; otherwise FIRST 0, the timestamp, IS_SET and IS_WRITE of the row before, and SRC, DST, COUNT equal to
+// that row's SRC_INCR, DST_INCR, COUNT_DECR." Assumes nothing but what each `requires` says.
+ghost use mathlib.Core.Path.{_≡_};
+ghost use mathlib.Core.Bool.{_&&_};
+ghost use Prim.Native.Nat.{_+_, _<_};
+ghost use lib.Dec.{eqb};
+ghost use lib.ListN.{length};
+ghost use Rattle.copy_row.specs.Columns.{at, TIMESTAMP, FIRST, IS-SET, IS-WRITE, COLUMNS};
+ghost use Rattle.copy_meaning.specs.ReadRow.{wordsAt, halvesAt};
+ghost use Rattle.plain_row.specs.Tests.{Fits, TwoWords, FourHalves};
+ghost use Rattle.chain.specs.Link.{Before, closed, linked, same, shown, handedOn};
+ghost use Rattle.chain.specs.Standing.{standing, Stood, isUnended};
+use copy_row::cols;
+use plain_row::row::halves_at;
+use plain_row::row::words_at;
+
+// The number in words at column c is the one in halves at column h of the row before.
+fn moved(previous: &[u64], row: &[u64], c: usize, h: usize) -> bool
+    requires { ⌜ (length (now previous) ≡ COLUMNS) × (length (now row) ≡ COLUMNS) × (c + 1 < COLUMNS) × (h + 3 < COLUMNS) ⌝ }
+    requires { ⌜ TwoWords (now row) c × FourHalves (now previous) h ⌝ }
+    ensures { λ r. ⌜ r ≡ eqb (wordsAt (now (row .entry)) c) (halvesAt (now (previous .entry)) h) ⌝ }
+{
+    words_at(row, c) == halves_at(previous, h)
+}
+
+fn same_stamp(previous: &[u64], row: &[u64]) -> bool
+    requires { ⌜ (length (now previous) ≡ COLUMNS) × (length (now row) ≡ COLUMNS) ⌝ }
+    requires { ⌜ Fits (now previous) × Fits (now row) ⌝ }
+    ensures { λ r. ⌜ r ≡ eqb (wordsAt (now (row .entry)) TIMESTAMP) (wordsAt (now (previous .entry)) TIMESTAMP) ⌝ }
+{
+    words_at(row, cols::TIMESTAMP_0) == words_at(previous, cols::TIMESTAMP_0)
+}
+
+// The row goes on with the call of the row before.
+fn goes_on(previous: &[u64], row: &[u64]) -> bool
+    requires { ⌜ (length (now previous) ≡ COLUMNS) × (length (now row) ≡ COLUMNS) ⌝ }
+    requires { ⌜ Fits (now previous) × Fits (now row) ⌝ }
+    ensures { λ r. ⌜ r ≡ same (shown (now (row .entry))) (handedOn (now (previous .entry))) ⌝ }
+{
+    (row[cols::FIRST] == 0)
+        & same_stamp(previous, row)
+        & (row[cols::IS_SET] == previous[cols::IS_SET])
+        & (row[cols::IS_WRITE] == previous[cols::IS_WRITE])
+        & moved(previous, row, cols::SRC_0, cols::SRC_INCR_0)
+        & moved(previous, row, cols::DST_0, cols::DST_INCR_0)
+        & moved(previous, row, cols::COUNT_0, cols::COUNT_DECR_0)
+}
+
+// The row may open the list or follow END.
+fn may_open(row: &[u64]) -> bool
+    requires { ⌜ length (now row) ≡ COLUMNS ⌝ }
+    ensures { λ r. ⌜ r ≡ linked closed (now (row .entry)) ⌝ }
+{
+    (row[cols::MU] != 1) | (row[cols::FIRST] == 1)
+}
+
+// "A dead row may follow only END, a dead row or nothing; a live row never follows a dead one."
+pub fn linked(previous: &[u64], row: &[u64]) -> bool
+    requires { ⌜ (length (now row) ≡ COLUMNS) × Fits (now row) ⌝ }
+    requires { ⌜ Stood (now previous) ⌝ }
+    ensures { λ r. ⌜ r ≡ linked (standing (now (previous .entry))) (now (row .entry)) ⌝ }
+{
+    if previous.len() == 0 {
+        return may_open(row);
+    }
+    if previous[cols::MU] != 1 {
+        return row[cols::MU] != 1;
+    }
+    if previous[cols::END] == 1 {
+        return may_open(row);
+    }
+    (row[cols::MU] == 1) & goes_on(previous, row)
+}
+
+// The list would end on a live row without END.
+pub fn unended(previous: &[u64]) -> bool
+    requires { ⌜ Stood (now previous) ⌝ }
+    ensures { λ r. ⌜ r ≡ isUnended (standing (now (previous .entry))) ⌝ }
+{
+    if previous.len() == 0 {
+        return false;
+    }
+    (previous[cols::MU] == 1) & (previous[cols::END] != 1)
+}

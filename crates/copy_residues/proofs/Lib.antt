@@ -1,0 +1,8 @@
+pub mod InRange
+pub mod Missed
+pub mod ZeroResidues
+pub mod RowFaults
+pub mod ResidueAnswers
+pub mod Examples
+pub mod Gate
+pub mod CountBorrow

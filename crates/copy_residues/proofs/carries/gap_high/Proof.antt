@@ -1,0 +1,16 @@
+-- `carries::gap_high`: computed as it is defined. Assumes nothing.
+use borrow.Author.Needs.{needs}
+use Rattle.copy_residues.specs.Residues.{gapHigh}
+use Rattle.copy_residues.proofs.carries.gap_high.Statement.{statement}
+use Rattle.copy_residues.proofs.carries.gap_high.Tie as tie
+
+pub gap-high-spec : {M : Type 1} → statement M
+unfolding gapHigh
+gap-high-spec =
+    tie.close
+    (tie.spec
+    (λ c κs. search needs)
+    (λ c κs. search needs)
+    (λ c κs. search needs)
+    (λ c κs. search needs)
+    (λ c. (rw (c .carry-high .ensures .0, c .before .cell2 .ensures .0, c .before .before .gap-low .ensures .0, c .before .before .before .cell .ensures .0), search needs)))

@@ -1,0 +1,17 @@
+-- `carries::incr_high`: computed as it is defined. Assumes nothing.
+use borrow.Author.Needs.{needs}
+use Rattle.copy_residues.specs.Residues.{incrHigh}
+use Rattle.copy_residues.proofs.carries.incr_high.Statement.{statement}
+use Rattle.copy_residues.proofs.carries.incr_high.Tie as tie
+
+pub incr-high-spec : {M : Type 1} → statement M
+unfolding incrHigh
+incr-high-spec =
+    tie.close
+    (tie.spec
+    (λ c. search needs)
+    (λ c κs. search needs)
+    (λ c. search needs)
+    (λ c κs. search needs)
+    (λ c κs. search needs)
+    (λ c. (rw (c .carry-high .ensures .0, c .before .halves-word .ensures .0, c .before .before .cell .ensures .0, c .before .before .before .before .pre .1 .0), search needs)))

@@ -1,0 +1,18 @@
+-- `equations::end_implies_lower`: computed as it is defined, with the borrow and the step given. Assumes nothing.
+use borrow.Author.Needs.{needs}
+use Rattle.copy_residues.specs.Residues.{endImplies}
+use Rattle.copy_residues.proofs.equations.end_implies_lower.Statement.{statement}
+use Rattle.copy_residues.proofs.equations.end_implies_lower.Tie as tie
+
+pub end-implies-lower-spec : {M : Type 1} → statement M
+unfolding endImplies
+end-implies-lower-spec =
+    tie.close
+    (tie.spec
+    (λ c κs. search needs)
+    (λ c κs. search needs)
+    (λ c κs. search needs)
+    (λ c κs. search needs)
+    (λ c κs. search needs)
+    (λ c κs. search needs)
+    (λ c. rw (c .times2 .ensures .0, c .before .sub2 .ensures .0, c .before .before .cell2 .ensures .0, c .before .before .before .times .ensures .0, c .before .before .before .before .sub .ensures .0, c .before .before .before .before .before .cell .ensures .0, c .before .before .before .before .before .before .before .pre .1 .0 .0, c .before .before .before .before .before .before .before .pre .1 .1 .0)))

@@ -1,0 +1,12 @@
+// Internal to the crate: one number of a copy row. Assumes nothing.
+ghost use Prim.Native.Nat.{_<_};
+ghost use Rattle.copy_row.specs.Columns.{at, COLUMNS};
+ghost use Rattle.copy_residues.specs.Cells.{Elements, Is};
+
+// Column c.
+pub fn cell(row: &[u64], c: usize) -> u64
+    requires { ⌜ Elements (now row) × (c < COLUMNS) ⌝ }
+    ensures { λ r. ⌜ Is (at (now (row .entry)) c) r ⌝ }
+{
+    row[c]
+}

@@ -1,0 +1,1 @@
+// The expansion cuts its call into rows.

@@ -1,0 +1,82 @@
+-- `memw::tables::write_row` meets its contract: in each case, what is put into the row are the cells of the record. Assumes nothing.
+use mathlib.Core.Path.{sym, ap, _∙_}
+use borrow.Author.Needs.{needs}
+use lib.ListN.{length}
+use Rattle.memw_rows.specs.Rows.{memwRow, alignedRow, registerRow}
+use Rattle.memw_rows.proofs.Wide.{memw-wide, aligned-wide, register-wide}
+use Rattle.memw.specs.Tables.{recordWidth, rowWidth}
+use Rattle.memw.proofs.tables.write_row.Statement.{statement}
+use Rattle.memw.proofs.tables.write_row.Tie as tie
+
+-- the record is as wide as its table's are
+operation-requires : tie.Need-operation-requires
+operation-requires c κs = c .before .before .before .before .pre .1 ∙ ap recordWidth (c .enum-told .given .1)
+
+operation-requires-2 : tie.Need-operation-requires-2
+operation-requires-2 c κs = c .before .before .before .before .pre .1 ∙ ap recordWidth (c .enum-told2 .given .1)
+
+reg-row-requires : tie.Need-reg-row-requires
+reg-row-requires c κs = c .before .before .before .before .pre .1 ∙ ap recordWidth (c .enum-told3 .given .1)
+
+-- the row is as wide as the cells
+put-requires : tie.Need-put-requires
+put-requires c κs =
+    let told = c .before .before .before .before in
+    told .before .before .before .before .pre .0 ∙ ap rowWidth (told .enum-told .given .1)
+    ∙ sym (ap length (c .before .before .memw-cells .ensures) ∙ memw-wide _)
+
+put-requires-2 : tie.Need-put-requires-2
+put-requires-2 c κs =
+    let told = c .before .before .before .before in
+    told .before .before .before .before .pre .0 ∙ ap rowWidth (told .enum-told2 .given .1)
+    ∙ sym (ap length (c .before .before .aligned-cells .ensures) ∙ aligned-wide _)
+
+put-requires-3 : tie.Need-put-requires-3
+put-requires-3 c κs =
+    let told = c .before .before .before .before in
+    told .before .before .before .before .pre .0 ∙ ap rowWidth (told .enum-told3 .given .1)
+    ∙ sym (ap length (c .before .before .register-cells .ensures) ∙ register-wide _)
+
+returns : tie.Need-returns
+returns c =
+    let made = c .before .before .before .before .before in
+    rw (made .before .before .enum-told .given .1)
+    (c .before .before .put .ensures ∙ made .memw-cells .ensures ∙ ap memwRow (made .before .operation .ensures))
+
+returns-2 : tie.Need-returns-2
+returns-2 c =
+    let made = c .before .before .before .before .before in
+    rw (made .before .before .enum-told2 .given .1)
+    (c .before .before .put2 .ensures ∙ made .aligned-cells .ensures ∙ ap alignedRow (made .before .operation2 .ensures))
+
+returns-3 : tie.Need-returns-3
+returns-3 c =
+    let made = c .before .before .before .before .before in
+    rw (made .before .before .enum-told3 .given .1)
+    (c .before .before .put3 .ensures ∙ made .register-cells .ensures ∙ ap registerRow (made .before .reg-row .ensures))
+
+pub write-row-spec : {M : Type 1} → statement M
+write-row-spec =
+    tie.close
+    (tie.spec
+    (λ c. search needs)
+    operation-requires
+    (λ c κs. search needs)
+    (λ c. search needs)
+    put-requires
+    (λ c. search needs)
+    operation-requires-2
+    (λ c κs. search needs)
+    (λ c. search needs)
+    put-requires-2
+    (λ c. search needs)
+    reg-row-requires
+    (λ c κs. search needs)
+    (λ c. search needs)
+    put-requires-3
+    (λ c. search needs)
+    returns
+    (λ c. search needs)
+    returns-2
+    (λ c. search needs)
+    returns-3)

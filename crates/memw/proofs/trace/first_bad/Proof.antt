@@ -1,0 +1,75 @@
+-- `memw::trace::first_bad` meets its contract. The invariant: the lowest bad record is the lowest from `k` on. Assumes nothing.
+use mathlib.Core.Path.{_≡_, sym, ap, _∙_}
+use Prim.Native.Nat.{_-_, _≤_}
+use native.Mathlib.Omega.{arith}
+use borrow.Author.Needs.{needs}
+use borrow.Author.Tests.{not-true, not-false}
+use denote.Ref.{now}
+use Rattle.records.specs.Lists.{first}
+use Rattle.records.specs.Records.{recordCount, recordAt, firstBad}
+use Rattle.records.proofs.Records.{badAt, bad-start, bad-pass, bad-stop, bad-end, record-within}
+use Rattle.memw.specs.Tables.{recordWidth, goodRecord}
+use Rattle.memw.proofs.AccessTables.{record-width-bounds}
+use Rattle.memw.proofs.trace.first_bad.Statement.{statement}
+use Rattle.memw.proofs.trace.first_bad.Tie as tie
+
+abbrev Inv-loop : tie.InvT-loop
+Inv-loop t records w n k₀ k =
+    (k ≤ n)
+    × (firstBad (recordWidth t) (goodRecord t) records
+    ≡ first (badAt (recordWidth t) (goodRecord t) records) k (recordCount (recordWidth t) records - k))
+
+abbrev μ-loop : tie.MeasureT-loop
+μ-loop t records w n k₀ k = n - k
+
+record-at-requires : tie.Need-record-at-requires Inv-loop μ-loop
+record-at-requires c κs =
+    let entry = c .before .before .before in
+    let begins = record-within (recordWidth (entry .args .t)) (now (entry .args .records)) (c .before .loop .k) (record-width-bounds (entry .args .t) .0) (omega arith) in
+    rw (entry .pre .0) (omega (arith, begins))
+
+-- what the record at `k` was found to be
+judged : (c : tie.After-good-record Inv-loop μ-loop)
+    → c .good-record .result
+    ≡ goodRecord (c .before .before .before .before .before .args .t)
+    (recordAt (recordWidth (c .before .before .before .before .before .args .t)) (now (c .before .before .before .before .before .args .records)) (c .before .before .before .loop .k))
+judged c =
+    let entry = c .before .before .before .before .before in
+    let records = now (entry .args .records) in
+    c .good-record .ensures
+    ∙ ap (goodRecord (entry .args .t)) (c .before .record-at .ensures ∙ ap (λ w. recordAt w records (c .before .before .before .loop .k)) (entry .pre .0))
+
+returns : tie.Need-returns Inv-loop μ-loop
+returns c =
+    let at = c .before .before .before .before in
+    let args = at .before .before .args in
+    let bad = sym (judged (c .before)) ∙ not-true _ (c .if1 .taken) in
+    sym (at .loop .inv .1 ∙ bad-stop (recordWidth (args .t)) (goodRecord (args .t)) (now (args .records)) (at .loop .k) (omega arith) bad)
+
+loop-again : tie.Need-loop-again Inv-loop μ-loop
+loop-again c =
+    let at = c .before .before .before .before in
+    let args = at .before .before .args in
+    let good = sym (judged (c .before)) ∙ not-false _ (c .if1 .left) in
+    (omega arith, at .loop .inv .1 ∙ bad-pass (recordWidth (args .t)) (goodRecord (args .t)) (now (args .records)) (at .loop .k) (omega arith) good)
+
+returns-2 : tie.Need-returns-2 Inv-loop μ-loop
+returns-2 c =
+    let at = c .before in
+    let args = at .before .before .args in
+    sym (at .loop .inv .1 ∙ bad-end (recordWidth (args .t)) (goodRecord (args .t)) (now (args .records)) (at .loop .k) (omega arith))
+
+pub first-bad-spec : {M : Type 1} → statement M
+first-bad-spec =
+    tie.close
+    (tie.spec
+    Inv-loop
+    μ-loop
+    (λ c. (omega arith, bad-start _ _ _))
+    record-at-requires
+    (λ c κs. search needs)
+    returns
+    (λ c. search needs)
+    (λ c. search needs)
+    loop-again
+    returns-2)

@@ -1,0 +1,4 @@
+pub mod Zero
+pub mod MadeRows
+pub mod LargeNumbers
+pub mod ResidueAnswers

@@ -1,0 +1,4 @@
+pub mod Residues
+pub mod Elements
+pub mod Answers
+pub mod MadeRows

@@ -1,0 +1,131 @@
+// Internal to the workspace, not open to callers: the residues of the three access tables by their numbers. Assumes nothing but what each
+// `requires` says.
+use crate::Flags;
+use crate::MemwResidueAnswer;
+use crate::equations::bit;
+use crate::equations::bit_of_sum;
+use crate::equations::flag_residue;
+use field::element::P;
+use memw::AccessTable;
+use memw::tables::row_width;
+use memw_rows::aligned_cols;
+use memw_rows::cols;
+use memw_rows::register_cols;
+ghost use mathlib.Core.Path.{_≡_};
+ghost use Prim.Native.Nat.{_<_};
+ghost use lib.ListN.{length};
+ghost use Rattle.copy_residues.specs.Range.{firstLarge};
+ghost use Rattle.memw.specs.Tables.{rowWidth};
+ghost use Rattle.memw.specs.declared.AccessTable.the-variants.{General, Aligned, Register};
+ghost use Rattle.memw_residues.specs.Residues.{memwFlags, alignedFlags, memwResidue, alignedResidue, registerResidue, residueCount, tableResidue};
+ghost use Rattle.memw_residues.specs.Elements.{Elements, FlagElements};
+ghost use Rattle.memw_residues.specs.Answers.{residueAnswer};
+
+// The flags of a row of the general table.
+fn memw_flags(row: &[u64]) -> Flags
+    requires { ⌜ Elements (now row) × (length (now row) ≡ rowWidth General) ⌝ }
+    ensures { λ r. ⌜ (r ≡ memwFlags (now (row .entry))) × FlagElements r ⌝ }
+{
+    Flags {
+        mu_read: row[cols::MU_READ],
+        mu_write: row[cols::MU_WRITE],
+        write2: row[cols::WRITE2],
+        write4: row[cols::WRITE4],
+        write8: row[cols::WRITE8],
+    }
+}
+
+// The flags of a row of the aligned table.
+fn aligned_flags(row: &[u64]) -> Flags
+    requires { ⌜ Elements (now row) × (length (now row) ≡ rowWidth Aligned) ⌝ }
+    ensures { λ r. ⌜ (r ≡ alignedFlags (now (row .entry))) × FlagElements r ⌝ }
+{
+    Flags {
+        mu_read: row[aligned_cols::MU_READ],
+        mu_write: row[aligned_cols::MU_WRITE],
+        write2: row[aligned_cols::WRITE2],
+        write4: row[aligned_cols::WRITE4],
+        write8: row[aligned_cols::WRITE8],
+    }
+}
+
+// The general table's residue of a number: CARRY in 4..=10, the others are those of the flags.
+fn memw_equation(row: &[u64], number: u64) -> u64
+    requires { ⌜ Elements (now row) × (length (now row) ≡ rowWidth General) × (number < residueCount General) ⌝ }
+    ensures { λ r. ⌜ r ≡ memwResidue (now (row .entry)) number ⌝ }
+{
+    match number {
+        0..=3 => flag_residue(memw_flags(row), number),
+        4..=10 => bit(row, cols::CARRY_0 + (number - 4) as usize),
+        _ => flag_residue(memw_flags(row), number - 7),
+    }
+}
+
+// The register table's residue of a number.
+fn register_equation(row: &[u64], number: u64) -> u64
+    requires { ⌜ Elements (now row) × (length (now row) ≡ rowWidth Register) × (number < residueCount Register) ⌝ }
+    ensures { λ r. ⌜ r ≡ registerResidue (now (row .entry)) number ⌝ }
+{
+    match number {
+        0 => bit(row, register_cols::MU_READ),
+        1 => bit(row, register_cols::MU_WRITE),
+        _ => bit_of_sum(row[register_cols::MU_READ], row[register_cols::MU_WRITE]),
+    }
+}
+
+// A table's residue of a number.
+fn equation(t: AccessTable, row: &[u64], number: u64) -> u64
+    requires { ⌜ Elements (now row) × (length (now row) ≡ rowWidth t) × (number < residueCount t) ⌝ }
+    ensures { λ r. ⌜ r ≡ tableResidue t (now (row .entry)) number ⌝ }
+{
+    match t {
+        AccessTable::General => memw_equation(row, number),
+        AccessTable::Aligned => flag_residue(aligned_flags(row), number),
+        AccessTable::Register => register_equation(row, number),
+    }
+}
+
+// How many residues a table has.
+fn residue_count(t: AccessTable) -> u64
+    ensures { λ r. ⌜ r ≡ residueCount t ⌝ }
+{
+    match t {
+        AccessTable::General => 15,
+        AccessTable::Aligned => 8,
+        AccessTable::Register => 3,
+    }
+}
+
+// The lowest number of a slice that is no element, or the length.
+fn first_large(row: &[u64]) -> usize
+    ensures { λ r. ⌜ r ≡ firstLarge (now (row .entry)) ⌝ }
+{
+    let mut c = 0;
+    while c < row.len() {
+        if P <= row[c] {
+            return c;
+        }
+        c += 1;
+    }
+    c
+}
+
+// A table's residue of a number, or the first refusal that applies: 12, 13, 14.
+pub fn residue_in(t: AccessTable, row: &[u64], number: u64) -> MemwResidueAnswer
+    ensures { λ r. ⌜ r ≡ residueAnswer t (now (row .entry)) number ⌝ }
+{
+    if residue_count(t) <= number {
+        return MemwResidueAnswer::NoResidue;
+    }
+    let width = row_width(t);
+    if row.len() != width {
+        return MemwResidueAnswer::NotRow;
+    }
+    let large = first_large(row);
+    if large < width {
+        return MemwResidueAnswer::NotElement {
+            place: large as u64,
+        };
+    }
+    MemwResidueAnswer::Residue(equation(t, row, number))
+}

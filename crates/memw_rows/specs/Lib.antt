@@ -1,0 +1,5 @@
+pub mod MemwColumns
+pub mod AlignedColumns
+pub mod RegisterColumns
+pub mod Rows
+pub mod CarryExamples

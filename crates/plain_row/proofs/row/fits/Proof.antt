@@ -1,0 +1,58 @@
+-- `row::fits`: `ok` says of the columns passed that they lie below their caps. Assumes nothing.
+use mathlib.Core.Logic.{_↔_}
+use mathlib.Core.Path.{_≡_, refl}
+use mathlib.Core.Bool.{true}
+use Prim.Native.Nat.{ℕ, _-_, _≤_, _<_}
+use native.Mathlib.Omega.{arith}
+use borrow.Author.Needs.{needs}
+use borrow.Author.Tests.{ltb-true, lt-ltb}
+use lib.ListN.{getD}
+use Rattle.copy_row.specs.Columns.{at, COLUMNS}
+use Rattle.copy_residues.specs.Range.{columnLimits}
+use Rattle.plain_row.specs.Tests.{caps, Fits}
+use Rattle.plain_row.proofs.Booleans.{and-true, true-and}
+use Rattle.plain_row.proofs.Columns.{fits-more}
+use Rattle.plain_row.proofs.row.fits.Statement.{statement}
+use Rattle.plain_row.proofs.row.fits.Tie as tie
+
+abbrev Inv-loop : tie.InvT-loop
+Inv-loop row limits ok₀ c₀ ok c = (c ≤ COLUMNS) × ((ok ≡ true) ↔ ((j : ℕ) → j < c → at row j < getD limits j 0))
+
+abbrev μ-loop : tie.MeasureT-loop
+μ-loop row limits ok₀ c₀ ok c = COLUMNS - c
+
+loop-again : tie.Need-loop-again Inv-loop μ-loop
+unfolding caps columnLimits
+loop-again c =
+    let l = c .before .before .loop in (
+      omega arith,
+      (
+        λ h.
+            let a = and-true (l .ok) _ h in
+            fits-more (c .before .before .before .args .row .now) caps _ (l .inv .1 .0 (a .0)) (ltb-true _ _ (a .1)),
+        λ q. true-and (l .ok) _ (l .inv .1 .1 (λ j k. q j (omega arith))) (lt-ltb _ _ (q (l .c) (omega arith))),
+      ),
+    )
+
+returns : tie.Need-returns Inv-loop μ-loop
+unfolding Fits caps columnLimits
+returns c = (
+  λ h j l. c .before .loop .inv .1 .0 h j (omega arith),
+  λ q. c .before .loop .inv .1 .1 (λ j l. q j (omega arith)),
+)
+
+pub fits-spec : {M : Type 1} → statement M
+fits-spec =
+    tie.close
+    (tie.spec
+    Inv-loop
+    μ-loop
+    (λ c. (omega arith, (λ h j l. absurd (omega arith), λ q. refl)))
+    (λ c. search needs)
+    (λ c. search needs)
+    (λ c. search needs)
+    (λ c. search needs)
+    (λ c. search needs)
+    (λ c. search needs)
+    loop-again
+    returns)

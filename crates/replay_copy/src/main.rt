@@ -1,0 +1,74 @@
+// Replays recorded questions on the copy table through the exported functions. A question is the function's number and its parameters, a
+// list as its length and its numbers; the answer's three numbers are printed, then each lent list afterwards. The file stdout has the
+// oracle's answers.
+ghost use lib.ListN.{length};
+ghost use Prim.Native.Nat.{_≤_, _<_};
+
+fn trace(ops: &[u64], table: &mut [u64]) {
+    replay::print_answer(exports::generate_copy_trace(ops, table));
+    replay::print_list(table);
+}
+
+// generate_copy_trace: the operation records, the table.
+fn ask_trace(numbers: &[u64], at: usize) -> usize
+    requires { ⌜ at < length (now numbers) ⌝ }
+    ensures { λ r. ⌜ (at < r) × (r ≤ length (now (numbers .entry))) ⌝ }
+{
+    let ops_end = replay::after_list(numbers, at);
+    if numbers.len() <= ops_end {
+        return numbers.len();
+    }
+    let table_end = replay::after_list(numbers, ops_end);
+    let mut table = [0u64; 1024];
+    let n = replay::load(&numbers[ops_end + 1..table_end], &mut table);
+    trace(&numbers[at + 1..ops_end], &mut table[0..n]);
+    table_end
+}
+
+// copy_residue: the gap, the row, the residue's number.
+fn ask_residue(numbers: &[u64], at: usize) -> usize
+    requires { ⌜ at < length (now numbers) ⌝ }
+    ensures { λ r. ⌜ (at < r) × (r ≤ length (now (numbers .entry))) ⌝ }
+{
+    let gap = numbers[at];
+    let row = at + 1;
+    if numbers.len() <= row {
+        return numbers.len();
+    }
+    let row_end = replay::after_list(numbers, row);
+    if numbers.len() <= row_end {
+        return numbers.len();
+    }
+    replay::print_answer(exports::copy_residue(gap, &numbers[row + 1..row_end], numbers[row_end]));
+    row_end + 1
+}
+
+// One question: 0 generate_copy_trace, 1 copy_residue.
+fn ask(numbers: &[u64], at: usize) -> usize
+    requires { ⌜ at < length (now numbers) ⌝ }
+    ensures { λ r. ⌜ (at < r) × (r ≤ length (now (numbers .entry))) ⌝ }
+{
+    let function = numbers[at];
+    if numbers.len() <= at + 1 {
+        return numbers.len();
+    }
+    if function == 0 {
+        return ask_trace(numbers, at + 1);
+    }
+    ask_residue(numbers, at + 1)
+}
+
+fn ask_all(numbers: &[u64]) {
+    let mut at = 0;
+    while at < numbers.len() {
+        at = ask(numbers, at);
+    }
+}
+
+fn main() {
+    let mut text = io::large_buffer();
+    let n = io::read_full(0, &mut text);
+    let mut numbers = [0u64; 8192];
+    let k = replay::numbers_of(&text[..n], &mut numbers);
+    ask_all(&numbers[..k]);
+}
