@@ -96,15 +96,23 @@ pub fn run(crates: &str, seed: u64) -> Result<(), String> {
             println!("{}: no such folder in {crates}, left out", program.name);
             continue;
         }
-        let script = program.script(seed)?;
-        let write = |file: &str, text: &str| {
-            fs::write(folder.join(file), text).map_err(|error| format!("{file}: {error}"))
-        };
-        write("stdin", &script.questions)?;
-        write("stdout", &script.answers)?;
+        let script = program
+            .script(&source(&folder)?, seed)
+            .map_err(|why| format!("{}: {why}", program.name))?;
+        fs::write(folder.join("stdin"), &script.questions).map_err(|error| error.to_string())?;
+        fs::write(folder.join("stdout"), &script.answers).map_err(|error| error.to_string())?;
         println!("{}: {}", program.name, script.summary());
     }
     Ok(())
+}
+
+/// The text of a program's sources.
+fn source(folder: &Path) -> Result<String, String> {
+    let read = || -> std::io::Result<String> {
+        let files = fs::read_dir(folder.join("src"))?;
+        files.map(|file| fs::read_to_string(file?.path())).collect()
+    };
+    read().map_err(|error| format!("{}: {error}", folder.display()))
 }
 
 /// What a program reads and must write.
@@ -117,15 +125,20 @@ struct Script {
 }
 
 impl Program {
-    fn script(&self, seed: u64) -> Result<Script, String> {
+    /// Functions that the program's source does not call are left out.
+    fn script(&self, source: &str, seed: u64) -> Result<Script, String> {
         let mut script = Script::default();
         for (number, part) in self.parts.iter().enumerate() {
+            if !source.contains(&format!("exports::{}(", part.name)) {
+                println!("{}: does not ask {}", self.name, part.name);
+                continue;
+            }
             for (question, reply) in part.questions(seed) {
                 script.add(number, &question, &reply);
             }
         }
         if script.questions.len() >= BYTES || script.numbers > NUMBERS {
-            return Err(format!("{}: too long: {}", self.name, script.summary()));
+            return Err(format!("too long: {}", script.summary()));
         }
         Ok(script)
     }

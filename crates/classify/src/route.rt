@@ -49,7 +49,7 @@ fn is_register_op(op: &[u64]) -> bool
 }
 
 // High words equal, and the low word 1 to 65,536 above the old one: what one half holds.
-fn reg_ts_delta_in_range(timestamp: u64, old_ts: u64) -> bool
+pub fn reg_ts_delta_in_range(timestamp: u64, old_ts: u64) -> bool
     ensures { λ r. ⌜ r ≡ deltaInRange timestamp «old_ts» ⌝ }
 {
     if timestamp >> 32 != old_ts >> 32 {

@@ -1,11 +1,11 @@
 -- Demand 3 holds. Assumes nothing.
-use mathlib.Core.Path.{_≡_, refl}
+use mathlib.Core.Path.{_≡_, refl, sym, subst₂}
 use mathlib.Core.Bool.{Bool, true, false, cond}
-use mathlib.Core.List.{List, flatMap}
+use mathlib.Core.List.{List, map, flatMap}
 use Prim.Native.Nat.{ℕ, _*_, _/_, _^_, _≤_, _<_}
 use native.Mathlib.Omega.{arith}
 use borrow.Author.Tests.{leb-false}
-use lib.Dec.{leb}
+use lib.Dec.{leb, lit≤}
 use lib.ListN.{length, take}
 use Rattle.copy_row.specs.Columns.{COLUMNS}
 use Rattle.records.specs.declared.TableAnswer.the-variants.{Made}
@@ -18,12 +18,13 @@ use Rattle.chain.specs.declared.ChainAnswer.the-variants.{Passed, GapTooLarge}
 use Rattle.calls.specs.Cuts.{CutCall, opsOf, Fits}
 use Rattle.calls.specs.OpChain.{callsOf}
 use Rattle.read_back.specs.ReadBack.{callNumbers}
-use Rattle.demand.specs.Demand.{Passes, ReadsBack, Demand3}
+use Rattle.demand.specs.Demand.{Passes, ReadsBack, Try, Typed, accepted, acceptedOps, acceptedCalls, Demand3}
 use Rattle.demand.proofs.Verdict.{Accepted}
 use Rattle.demand.proofs.Whole.{passes-calls, calls-pass, calls-passes}
 use Rattle.demand.proofs.ReadBack.{reads-back, only-nine}
 use Rattle.demand.proofs.Alone.{alone}
 use Rattle.demand.proofs.Made.{written-calls}
+use Rattle.demand.proofs.Accepted.{cutTry, tries-fit, tries-wrote, tries-handed}
 
 -- no list passes under a gap of 2^32 or more
 gap-below : (gap : ℕ) (l : List ℕ) → Passes gap l → gap < 2 ^ 32
@@ -51,6 +52,20 @@ made-passes gap g limit small ks fits table rows made =
     let w = written-calls gap limit small ks fits table rows made g in
     (calls-passes gap g l ks w, reads-back gap g l ks w)
 
+made : (gap : ℕ) → gap < 2 ^ 32 → (tries : List Try) → All Typed tries → (table : List ℕ) (rows : ℕ)
+    → copyAnswer 65536 (acceptedOps gap tries) (length table) ≡ Made rows
+    → let l = take (COLUMNS * rows) (copyAfter (acceptedOps gap tries) (Made rows) table) in
+    Passes gap l × ((ops calls : List ℕ) → ReadsBack gap l (acceptedOps gap tries) (acceptedCalls gap tries) ops calls)
+made gap g tries typed table rows =
+    subst₂
+    (λ (records handed : List ℕ).
+    copyAnswer 65536 records (length table) ≡ Made rows
+    → let l = take (COLUMNS * rows) (copyAfter records (Made rows) table) in
+    Passes gap l × ((ops calls : List ℕ) → ReadsBack gap l records handed ops calls))
+    (sym (tries-wrote gap tries typed))
+    (sym (tries-handed gap tries))
+    (made-passes gap g 65536 (lit≤ tt) (map cutTry (accepted gap tries)) (tries-fit gap tries typed) table rows)
+
 pub demand3 : Demand3
 demand3 =
     record {
@@ -59,4 +74,5 @@ demand3 =
       reads = λ gap g l ks w ops calls. reads-back gap g l ks w ops calls;
       alone = alone;
       only-nine = only-nine;
+      made = made;
     }

@@ -2,8 +2,9 @@
 use mathlib.Core.Path.{refl}
 use mathlib.Core.List.{[], _∷_, flatMap}
 use mathlib.Core.Logic.{inl, inr}
-use Prim.Native.Nat.{ℕ, _<_}
+use Prim.Native.Nat.{ℕ, zero, suc, _<_}
 use native.Mathlib.Omega.{arith}
+use lib.ListN.{replicate}
 use Rattle.field.specs.Field.{addP, subP, mulP, bitP}
 use Rattle.field.specs.Carries.{carryP, carryLow, carryHigh}
 use Rattle.records.specs.Lists.{store, flat, picked, counted, first}
@@ -20,9 +21,16 @@ use Rattle.copy_meaning.proofs.Check.{fine-passing}
 use Rattle.chain.specs.Link.{same, linked, before}
 use Rattle.chain.specs.Chain.{rowsFrom, chainFrom, chainAnswer}
 use Rattle.calls.specs.Cuts.{Fits}
+use Rattle.window.specs.Window.{cellsAt, writeBytes}
+use Rattle.expansion_rows.specs.Rows as call
+use Rattle.expansion_rows.specs.Rows.{copyRowWidth, rowsWithin}
+use Rattle.expansion_rows.specs.Turns.{turnBytes, rowOps}
+use Rattle.expansion.specs.Refusals.{refusals, expansionAnswer}
+use Rattle.expansion.specs.Expansion.{callOps, expanded, lentAfter}
+use Rattle.expansion_cut.specs.Pieces.{Bytes}
 use Rattle.read_back.specs.ReadBack.{opsCount, callsCount, readOps, readCalls, roomAnswer, readBackAnswer}
-use Rattle.demand.specs.Demand.{DeadRow, WholeCalls, AnyCall}
-use Rattle.demand.specs.Instances.{wide, narrow, threeKinds, deadRow, rows, unsound, Instances}
+use Rattle.demand.specs.Demand.{DeadRow, WholeCalls, AnyCall, Typed}
+use Rattle.demand.specs.Instances.{wide, narrow, threeKinds, deadRow, rows, unsound, tries, Instances}
 use Rattle.demand.proofs.Whole.{whole-calls}
 
 wide-ok : (byte : ℕ) → byte < 256 → PieceOk (wide byte)
@@ -75,12 +83,30 @@ rows-whole : WholeCalls 8 rows threeKinds
 unfolding paddingRow flatMap rowOf rowsFrom
 rows-whole = whole-calls 8 (omega arith) rows refl threeKinds three-fit (deadRow ∷ []) (dead-row, tt) refl
 
+bytes-same : (n b : ℕ) → b < 256 → Bytes (replicate n b)
+bytes-same zero b h i = omega arith
+bytes-same (suc n) b h zero = h
+bytes-same (suc n) b h (suc i) = bytes-same n b h i
+
+tries-typed : All Typed tries
+tries-typed = (
+  record { stamp = omega arith; src = omega arith; dst = omega arith; count = omega arith; bytes = bytes-same 32 3 (omega arith) },
+  (
+    record { stamp = omega arith; src = omega arith; dst = omega arith; count = omega arith; bytes = bytes-same 32 4 (omega arith) },
+    (
+      record { stamp = omega arith; src = omega arith; dst = omega arith; count = omega arith; bytes = bytes-same 32 5 (omega arith) },
+      tt,
+    ),
+  ),
+)
+
 pub instances : Instances
 unfolding flatMap addP subP mulP bitP carryP carryLow carryHigh store flat picked counted first firstAbove within firstBad doubled rowCount
     tableAnswer rowAt tableAfter rowOf paddingRow opLimits copyAnswer copyAfter columnLimits firstLarge firstOut halvesWord step incrLow
     incrHigh decrLow decrHigh resLow resHigh gapLow gapHigh borrow impliesMu oneHot firstWrite gatedBit dstResNonWrite singleLane
     borrowImplies borrowImpliesZero endImplies muComIs muComWideIs noWrap gapNoWrap residue firstResidue rowFault same linked before
-    rowsFrom chainFrom chainAnswer opsCount callsCount readOps readCalls roomAnswer readBackAnswer
+    rowsFrom chainFrom chainAnswer opsCount callsCount readOps readCalls roomAnswer readBackAnswer cellsAt writeBytes copyRowWidth rowsWithin
+    call.rowsFrom turnBytes rowOps refusals expansionAnswer callOps expanded lentAfter
 instances =
     record {
       passes = refl;
@@ -102,4 +128,10 @@ instances =
       refused-17 = refl;
       refused-17-late = refl;
       refused-18 = refl;
+      typed = tries-typed;
+      set-refused = refl;
+      others-accepted = refl;
+      tries-made = refl;
+      tries-pass = refl;
+      tries-read = refl;
     }

@@ -10,14 +10,16 @@ use Rattle.copy_row.specs.Columns.{SRC, SRC-INCR, DST-INCR, MU-COM-WIDE, COLUMN
 use Rattle.copy_row.specs.Calls.{Piece, opRecord}
 use Rattle.copy_row.specs.Rows.{tableRow, paddingRow}
 use Rattle.copy_row.specs.Trace.{copyAnswer, copyAfter}
+use Rattle.copy_row.specs.declared.Functionality.the-variants.{Copy, Set, Write}
 use Rattle.copy_meaning.specs.Steps.{All}
 use Rattle.chain.specs.Chain.{chainAnswer}
 use Rattle.chain.specs.declared.ChainAnswer.the-variants.{Passed, GapTooLarge, NotRows, BadElement, BadRange, BadResidue, LinkBroken, NotEnded}
+use Rattle.expansion.specs.Expansion.{Lent, lent}
 use Rattle.calls.specs.Cuts.{CutCall, opsOf, Fits}
 use Rattle.calls.specs.OpChain.{callsOf}
 use Rattle.read_back.specs.ReadBack.{callNumbers, readOps, readCalls, readBackAnswer}
 use Rattle.read_back.specs.declared.ReadBackAnswer.the-variants.{Read, BufferShort}
-use Rattle.demand.specs.Demand.{WholeCalls, AnyCall}
+use Rattle.demand.specs.Demand.{WholeCalls, AnyCall, Try, Typed, answered, accepted, acceptedOps}
 
 abbrev pub wide : ℕ → Piece
 wide byte = record { width = 8; value = replicate 8 byte }
@@ -55,6 +57,22 @@ spoiled k c x = set rows (COLUMNS * k + c) x
 abbrev pub unsound : CutCall
 unsound = record { call = record { kind = 0; stamp = 4; src = 18446744073709551615; dst = 0; count = 3 }; pieces = wide 1 ∷ wide 2 ∷ [] }
 
+-- calls for the expansion, each with a window of its own: a Copy of nine bytes, a Set whose dst is not a gap above its src, an empty Write
+abbrev pub window : ℕ → ℕ → ℕ → Lent
+window byte opsRoom accessesRoom = lent (replicate 32 byte) (replicate 32 0) (replicate opsRoom 7) (replicate accessesRoom 7)
+
+abbrev pub copyTry : Try
+copyTry = record { kind = Copy; stamp = 4; src = 0; dst = 16; count = 9; slices = window 3 33 116 }
+
+abbrev pub setTry : Try
+setTry = record { kind = Set; stamp = 5; src = 0; dst = 9; count = 1; slices = window 4 16 58 }
+
+abbrev pub writeTry : Try
+writeTry = record { kind = Write; stamp = 6; src = 5; dst = 40; count = 0; slices = window 5 16 0 }
+
+abbrev pub tries : List Try
+tries = copyTry ∷ setTry ∷ writeTry ∷ []
+
 pub record Instances : Type 0 where
   -- lists that pass: calls of all three kinds, one of them empty and of width 8, and a dead row that is not padding; no row at all
   pub passes : chainAnswer 8 rows ≡ Passed 5
@@ -81,3 +99,10 @@ pub record Instances : Type 0 where
   pub refused-17 : chainAnswer 8 (row 1 ++ row 0) ≡ LinkBroken 0
   pub refused-17-late : chainAnswer 8 (deadRow ++ row 2) ≡ LinkBroken 1
   pub refused-18 : chainAnswer 8 (row 0) ≡ NotEnded 1
+  -- expanded in turn: the Set is refused with 3, and the table of the other two has four rows that pass
+  pub typed : All Typed tries
+  pub set-refused : answered 8 setTry .number ≡ 3
+  pub others-accepted : accepted 8 tries ≡ copyTry ∷ writeTry ∷ []
+  pub tries-made : copyAnswer 65536 (acceptedOps 8 tries) 164 ≡ Made 4
+  pub tries-pass : chainAnswer 8 (take (COLUMNS * 4) (copyAfter (acceptedOps 8 tries) (Made 4) (replicate 164 1))) ≡ Passed 4
+  pub tries-read : readBackAnswer 8 (take (COLUMNS * 4) (copyAfter (acceptedOps 8 tries) (Made 4) (replicate 164 1))) 48 10 ≡ Read 3 2

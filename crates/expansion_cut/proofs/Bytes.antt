@@ -5,39 +5,39 @@ use mathlib.Core.Logic.{_⊎_, inl}
 use mathlib.Core.List.{List, [], _∷_, _++_}
 use Prim.Native.Nat.{ℕ, zero, suc, _+_, _<_}
 use native.Mathlib.Omega.{arith}
-use lib.ListN.{take, drop, set, replicate, length-append}
-use lib.Seq.{length-take-le}
+use lib.ListN.{take, drop, set, replicate}
 use Rattle.records.specs.Lists.{store}
 use Rattle.copy_row.specs.Calls.{Call}
-use Rattle.copy_meaning.specs.Steps.{PieceOk}
+use Rattle.copy_meaning.specs.Steps.{All, PieceOk}
 use Rattle.window.specs.Window.{cellsAt, writeBytes}
+use Rattle.window.proofs.Window.{length-cells}
 use Rattle.expansion_rows.specs.Turns.{inverted, valueAt, turnBytes}
+use Rattle.expansion_rows.proofs.HeldOps.{bytes-cells}
 use Rattle.expansion_cut.specs.Pieces.{Bytes}
 
-bytes-append : (a b : List ℕ) → Bytes a → Bytes b → Bytes (a ++ b)
-bytes-append [] b g h = h
-bytes-append (x ∷ a) b g h = (g .0, bytes-append a b (g .1) h)
+all-bytes : (l : List ℕ) → Bytes l → All (λ (b : ℕ). b < 256) l
+all-bytes [] h = tt
+all-bytes (x ∷ l) h = (h 0, all-bytes l (λ i. h (suc i)))
 
 bytes-take : (n : ℕ) (l : List ℕ) → Bytes l → Bytes (take n l)
-bytes-take zero l h = tt
-bytes-take (suc n) [] h = tt
-bytes-take (suc n) (x ∷ l) h = (h .0, bytes-take n l (h .1))
+bytes-take zero l h i = omega arith
+bytes-take (suc n) [] h i = h i
+bytes-take (suc n) (x ∷ l) h zero = h 0
+bytes-take (suc n) (x ∷ l) h (suc i) = bytes-take n l (λ j. h (suc j)) i
 
-bytes-drop : (n : ℕ) (l : List ℕ) → Bytes l → Bytes (drop n l)
-bytes-drop zero l h = h
-bytes-drop (suc n) [] h = tt
-bytes-drop (suc n) (x ∷ l) h = bytes-drop n l (h .1)
+bytes-set : (l : List ℕ) (k v : ℕ) → v < 256 → Bytes l → Bytes (set l k v)
+bytes-set [] k v g h i = h i
+bytes-set (x ∷ l) zero v g h zero = g
+bytes-set (x ∷ l) zero v g h (suc i) = h (suc i)
+bytes-set (x ∷ l) (suc k) v g h zero = h 0
+bytes-set (x ∷ l) (suc k) v g h (suc i) = bytes-set l k v g (λ j. h (suc j)) i
 
-bytes-set : (l : List ℕ) (i v : ℕ) → v < 256 → Bytes l → Bytes (set l i v)
-bytes-set [] i v g h = tt
-bytes-set (x ∷ l) zero v g h = (g, h .1)
-bytes-set (x ∷ l) (suc i) v g h = (h .0, bytes-set l i v g (h .1))
-
-pub bytes-store : (l : List ℕ) (i : ℕ) (vs : List ℕ) → Bytes vs → Bytes l → Bytes (store l i vs)
+pub bytes-store : (l : List ℕ) (k : ℕ) (vs : List ℕ) → Bytes vs → Bytes l → Bytes (store l k vs)
 unfolding store
-bytes-store l i [] g h = h
-bytes-store l i (v ∷ vs) g h = bytes-store (set l i v) (i + 1) vs (g .1) (bytes-set l i v (g .0) h)
+bytes-store l k [] g h = h
+bytes-store l k (v ∷ vs) g h = bytes-store (set l k v) (k + 1) vs (λ i. g (suc i)) (bytes-set l k v (g 0) h)
 
+-- the piece of an empty call
 pub zeros-ok : PieceOk (record { width = 1; value = replicate 8 0 })
 zeros-ok = record { wide = inl refl; eight = refl; bytes = omega arith; tail = λ e. refl }
 
@@ -45,11 +45,10 @@ zeros-ok = record { wide = inl refl; eight = refl; bytes = omega arith; tail = �
 pub cells-ok : (l : List ℕ) (a w : ℕ) → (w ≡ 1) ⊎ (w ≡ 8) → Bytes l → PieceOk (record { width = w; value = cellsAt l a w })
 unfolding cellsAt
 cells-ok l a w wide h =
-    let taken = take w (drop a l) in
     record {
       wide = wide;
-      eight = length-take-le 8 (taken ++ replicate 8 0) (omega (arith, length-append taken (replicate 8 0)));
-      bytes = bytes-take 8 (taken ++ replicate 8 0) (bytes-append taken (replicate 8 0) (bytes-take w (drop a l) (bytes-drop a l h)) (omega arith));
+      eight = length-cells l a w;
+      bytes = all-bytes (cellsAt l a w) (bytes-cells l a w h);
       tail = λ e. rw e (tail (drop a l));
     }
   where
@@ -57,12 +56,12 @@ cells-ok l a w wide h =
     tail [] = refl
     tail (x ∷ t) = refl
 
-pub bytes-turn : (c : Call) (w : ℕ) (bytes : List ℕ) → Bytes (valueAt c w bytes) → Bytes bytes → Bytes (turnBytes c w bytes)
+pub bytes-turn : (c : Call) (w : ℕ) (bytes : List ℕ) → Bytes bytes → Bytes (turnBytes c w bytes)
 unfolding turnBytes writeBytes
-bytes-turn c w bytes v h = bytes-store _ (c .src) _ written (destination (inverted c))
+bytes-turn c w bytes h = bytes-store _ (c .src) _ written (destination (inverted c))
   where
     written : Bytes (take w (valueAt c w bytes))
-    written = bytes-take w (valueAt c w bytes) v
+    written = bytes-take w (valueAt c w bytes) (bytes-cells bytes (c .src) w h)
 
     destination : (t : Bool) → Bytes (cond t (store bytes (c .dst) (take w (valueAt c w bytes))) bytes)
     destination true = bytes-store bytes (c .dst) (take w (valueAt c w bytes)) written h

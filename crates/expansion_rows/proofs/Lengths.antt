@@ -2,16 +2,17 @@
 use mathlib.Core.Path.{_≡_, refl, sym, ap, _∙_}
 use mathlib.Core.Bool.{Bool, true, false, cond}
 use mathlib.Core.List.{List, [], _∷_, _++_, flatMap, append-assoc, append-nil}
-use Prim.Native.Nat.{ℕ, suc, _+_}
+use Prim.Native.Nat.{ℕ, suc, _+_, _*_}
 use native.Mathlib.Omega.{arith}
-use lib.ListN.{length}
+use lib.ListN.{length, length-append}
 use Rattle.copy_row.specs.Calls.{Call, Op, opRecord}
 use Rattle.copy_row.specs.Rows.{bit}
 use Rattle.access.specs.Access.{Access}
 use Rattle.window.specs.Window.{Window, windowOf, writeBytes, writeStamps, readAccess, writeAccess}
 use Rattle.window.proofs.Window.{length-cells, length-bytes, length-stamps}
-use Rattle.expansion_rows.specs.Rows.{Row}
-use Rattle.expansion_rows.specs.Turns.{inverted, readStamp, writeStamp, valueAt, turnBytes, turnStamps, turnAccesses, rowOp, rowOps, passBytes, passStamps}
+use Rattle.expansion_rows.specs.Rows.{copyRowWidth, Row, rowsFrom}
+use Rattle.expansion_rows.specs.Turns.{inverted, readStamp, writeStamp, valueAt, turnBytes, turnStamps, turnAccesses, rowOp, rowOps, passBytes, passStamps, passAccesses}
+use Rattle.expansion_rows.proofs.RowList.{rows-ind}
 use Rattle.expansion_rows.specs.Held.{heldBytes, heldStamps, heldAllBytes, heldAllStamps, heldAccesses}
 
 -- Joined
@@ -99,3 +100,23 @@ held-accesses-length (o ∷ os) m =
 
 pub op-length : (r : Row) (bytes : List ℕ) → length (opRecord (rowOp r bytes)) ≡ 16
 op-length r bytes = omega (arith, length-cells bytes (r .call .src) (r .width))
+
+-- How many accesses the turns of a call's rows have
+
+pub pass-accesses-length : (c : Call) (f : ℕ) (m : Window)
+    → length (passAccesses (rowsFrom c f) m) ≡ cond (inverted c) (2 * length (rowsFrom c f)) (length (rowsFrom c f))
+unfolding passAccesses
+pass-accesses-length =
+    rows-ind (λ c f rs. (m : Window) → length (passAccesses rs m) ≡ cond (inverted c) (2 * length rs) (length rs))
+    (λ c f e m. none (inverted c))
+    (λ c f rs some later m.
+    length-append (turnAccesses c (copyRowWidth c) m) _
+    ∙ more (inverted c) (length rs) (turn-accesses-length c (copyRowWidth c) m) (later _))
+  where
+    none : (b : Bool) → _≡_ {A = ℕ} 0 (cond b 0 0)
+    none true = refl
+    none false = refl
+
+    more : (b : Bool) (n : ℕ) {x y : ℕ} → x ≡ 1 + bit b → y ≡ cond b (2 * n) n → x + y ≡ cond b (2 * suc n) (suc n)
+    more true n e q = omega arith
+    more false n e q = omega arith

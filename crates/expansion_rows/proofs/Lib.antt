@@ -2,5 +2,6 @@ pub mod Width
 pub mod RowList
 pub mod Lengths
 pub mod OneTurn
+pub mod HeldOps
 pub mod ReadLoop
 pub mod WriteLoop

@@ -12,7 +12,8 @@ use Rattle.copy_row.specs.Calls.{Call, opRecord}
 use Rattle.copy_row.specs.Rows.{bit}
 use Rattle.access.specs.Access.{accessRecord}
 use Rattle.window.specs.Window.{Window, windowOf}
-use Rattle.expansion_rows.specs.Rows.{copyRowWidth, rest, Row, rowOf, rowsFrom, rowsOf}
+use Rattle.calls.specs.Cuts.{rest}
+use Rattle.expansion_rows.specs.Rows.{copyRowWidth, Row, rowOf, rowsFrom, rowsOf}
 use Rattle.expansion_rows.specs.Turns.{inverted, turnBytes, turnStamps, turnAccesses, rowOp, rowOps, passBytes, passStamps, passAccesses}
 use Rattle.expansion_rows.specs.Inside.{PassInside}
 use Rattle.expansion_rows.proofs.Width.{width-pos, width-eight, width-within}

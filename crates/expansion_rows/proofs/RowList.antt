@@ -7,7 +7,8 @@ use native.Mathlib.Omega.{arith}
 use lib.ListN.{length}
 use borrow.Author.Tests.{eq-eqb, ne-eqb}
 use Rattle.copy_row.specs.Calls.{Call}
-use Rattle.expansion_rows.specs.Rows.{copyRowWidth, rest, Row, rowOf, rowsWithin, rowsFrom, rowsOf}
+use Rattle.calls.specs.Cuts.{rest}
+use Rattle.expansion_rows.specs.Rows.{copyRowWidth, Row, rowOf, rowsWithin, rowsFrom, rowsOf}
 use Rattle.expansion_rows.proofs.Width.{width-pos, width-within}
 
 within-none : (n : ℕ) (c : Call) (f : ℕ) → c .count ≡ 0 → rowsWithin n c f ≡ []
@@ -53,6 +54,26 @@ rows-next c w f e h = step (c .count) refl
         ∙ within-more n c f h
         ∙ ap (λ (x : ℕ). rowOf c x f ∷ rowsWithin n (rest c x) 0) (sym e)
         ∙ ap (λ (rs : List Row). rowOf c w f ∷ rs) (enough n (c .count - w) (rest c w) 0 (omega arith) (omega arith))
+
+-- What holds of no rows where nothing remains, and goes from the rows that a row leaves to it and them, holds of the rows of any call
+pub rows-ind : (P : Call → ℕ → List Row → Type 0)
+    → ((c : Call) (f : ℕ) → c .count ≡ 0 → P c f [])
+    → ((c : Call) (f : ℕ) (rs : List Row) → 0 < c .count → P (rest c (copyRowWidth c)) 0 rs → P c f (rowOf c (copyRowWidth c) f ∷ rs))
+    → (c : Call) (f : ℕ) → P c f (rowsFrom c f)
+rows-ind P none more c f = within (c .count) c f (omega arith)
+  where
+    back : (c : Call) (f : ℕ) (n : ℕ) → c .count ≡ n → (0 < c .count → P (rest c (copyRowWidth c)) 0 (rowsFrom (rest c (copyRowWidth c)) 0))
+        → P c f (rowsFrom c f)
+    back c f zero e later = subst (λ (rs : List Row). P c f rs) (sym (rows-none c f e)) (none c f e)
+    back c f (suc n) e later =
+        subst (λ (rs : List Row). P c f rs) (sym (rows-next c (copyRowWidth c) f refl (omega arith)))
+        (more c f (rowsFrom (rest c (copyRowWidth c)) 0) (omega arith) (later (omega arith)))
+
+    within : (g : ℕ) (c : Call) (f : ℕ) → c .count ≤ g → P c f (rowsFrom c f)
+    within zero c f h = back c f 0 (omega arith) (λ some. absurd (omega arith))
+    within (suc g) c f h =
+        back c f (c .count) refl
+        (λ some. within g (rest c (copyRowWidth c)) 0 (omega (arith, width-pos c, some)))
 
 -- How many rows
 

@@ -1,10 +1,11 @@
 -- The rows of a call. Document 01: "`copy_row_width` is: 8 if 8 or more remain, else 1". A row moves so many of the bytes that remain, and
 -- the next one goes on behind them. Assumes nothing.
-use Prim.Native.Nat.{ℕ, zero, suc, _+_, _-_}
+use Prim.Native.Nat.{ℕ, zero, suc}
 use mathlib.Core.Bool.{cond}
 use mathlib.Core.List.{List, [], _∷_}
 use lib.Dec.{leb, eqb}
 use Rattle.copy_row.specs.Calls.{Call}
+use Rattle.calls.specs.Cuts.{rest}
 use Rattle.expansion_rows.specs.declared.CopyCall.{CopyCall}
 
 -- the call that the code's struct holds
@@ -15,10 +16,6 @@ callOf c = record { kind = c .kind; stamp = c .timestamp; src = c .src; dst = c 
 -- most what remains
 unfoldable pub copyRowWidth : Call → ℕ
 copyRowWidth c = cond (leb 8 (c .count)) 8 1
-
--- what remains after a row of width w
-abbrev pub rest : Call → ℕ → Call
-rest c w = record { kind = c .kind; stamp = c .stamp; src = c .src + w; dst = c .dst + w; count = c .count - w }
 
 -- a row: the call as it remains here, how many bytes the row moves, and FIRST
 pub record Row : Type 0 where

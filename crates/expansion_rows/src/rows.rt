@@ -6,7 +6,8 @@ ghost use lib.Dec.{leb};
 ghost use lib.ListN.{length};
 ghost use Rattle.copy_row.specs.Calls.{opRecord};
 ghost use Rattle.copy_row.specs.Rows.{bit};
-ghost use Rattle.expansion_rows.specs.Rows.{callOf, copyRowWidth, rest, rowsOf};
+ghost use Rattle.calls.specs.Cuts.{rest};
+ghost use Rattle.expansion_rows.specs.Rows.{callOf, copyRowWidth, rowsOf};
 use crate::CopyCall;
 use window::accesses::byte_words;
 

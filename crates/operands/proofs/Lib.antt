@@ -1,7 +1,7 @@
 pub mod Every
 pub mod Sums
 pub mod Signed
-pub mod Elements
 pub mod Operands
 pub mod Pairs
 pub mod Answers
+pub mod Constructors

@@ -10,7 +10,7 @@ use lib.ListN.{length}
 use Rattle.answer.specs.declared.Answer.{Answer}
 use Rattle.answer.specs.Numbers.{accepted, refused}
 use Rattle.copy_row.specs.Columns.{COLUMNS}
-use Rattle.operands.specs.Elements.{firstLarge}
+use Rattle.copy_residues.specs.Range.{firstLarge}
 use Rattle.operands.specs.Operands.{operandsInRow, conditionsInRow}
 use Rattle.operands.specs.Pairs.{residueLo, residueHi, carryHi}
 use Rattle.operands.specs.declared.AddOperand.{AddOperand}
@@ -22,13 +22,17 @@ use Rattle.operands.specs.declared.CarryAnswer.{CarryAnswer}
 use Rattle.operands.specs.declared.CarryAnswer.the-variants as carry
 
 -- the first of 12, 13 and 14 that holds, given whether all columns are in the row and no sum has more than four terms
-unfoldable pub pairFault : Bool → List ℕ → PairFault
-pairFault inRow row =
+unfoldable pub faultOf : Bool → List ℕ → PairFault
+faultOf inRow row =
     cond inRow
     (cond (eqb (length row) COLUMNS)
     (cond (ltb (firstLarge row) COLUMNS) (fault.NotElement (firstLarge row)) fault.Fine)
     fault.NotRow)
     fault.OutsideRow
+
+-- the same of condition columns, three operands and a row
+unfoldable pub pairFault : List ℕ → AddOperand → AddOperand → AddOperand → List ℕ → PairFault
+pairFault conditions lhs rhs sum row = faultOf (conditionsInRow conditions && operandsInRow lhs rhs sum) row
 
 -- what `emit_add_pair` answers
 unfoldable pub pairAnswerOf : PairFault → ℕ → ℕ → PairAnswer
@@ -39,7 +43,7 @@ pairAnswerOf (fault.NotElement place) low high = pair.NotElement place
 
 unfoldable pub pairAnswer : List ℕ → AddOperand → AddOperand → AddOperand → List ℕ → PairAnswer
 pairAnswer conditions lhs rhs sum row =
-    pairAnswerOf (pairFault (conditionsInRow conditions && operandsInRow lhs rhs sum) row) (residueLo conditions row lhs rhs sum)
+    pairAnswerOf (pairFault conditions lhs rhs sum row) (residueLo conditions row lhs rhs sum)
     (residueHi conditions row lhs rhs sum)
 
 -- what `add_pair_carry_hi` answers
@@ -50,7 +54,7 @@ carryAnswerOf fault.NotRow c = carry.NotRow
 carryAnswerOf (fault.NotElement place) c = carry.NotElement place
 
 unfoldable pub carryAnswer : AddOperand → AddOperand → AddOperand → List ℕ → CarryAnswer
-carryAnswer lhs rhs sum row = carryAnswerOf (pairFault (operandsInRow lhs rhs sum) row) (carryHi row lhs rhs sum)
+carryAnswer lhs rhs sum row = carryAnswerOf (faultOf (operandsInRow lhs rhs sum) row) (carryHi row lhs rhs sum)
 
 -- document 01's number and place of an answer of `emit_add_pair`, and its two values
 pub record PairNumbers : Type 0 where

@@ -1,4 +1,4 @@
-pub mod Elements
 pub mod Operands
+pub mod Constructors
 pub mod Pairs
 pub mod Answers

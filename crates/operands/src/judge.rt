@@ -5,13 +5,11 @@ use crate::AddOperand;
 use crate::OperandKind;
 use crate::PairFault;
 use crate::TermCell;
-use field::element::P;
+use copy_residues::range::first_large;
+use copy_row::cols::NUM_COLUMNS;
 ghost use mathlib.Core.Path.{_≡_};
-ghost use Rattle.operands.specs.Elements.{firstLarge};
 ghost use Rattle.operands.specs.Operands.{termInRow, sumInRow, operandInRow, operandsInRow, conditionsInRow};
-ghost use Rattle.operands.specs.Answers.{pairFault};
-
-const NUM_COLUMNS: usize = 41;
+ghost use Rattle.operands.specs.Answers.{faultOf, pairFault};
 
 // Whether a term's column, where it has one, is in a copy row.
 fn term_in_row(t: AddLinearTerm) -> bool
@@ -68,7 +66,7 @@ pub fn operands_in_row(lhs: AddOperand, rhs: AddOperand, sum: AddOperand) -> boo
 }
 
 // Whether the condition columns are in a copy row.
-pub fn conditions_in_row(conditions: &[u64]) -> bool
+fn conditions_in_row(conditions: &[u64]) -> bool
     ensures { λ r. ⌜ r ≡ conditionsInRow (now (conditions .entry)) ⌝ }
 {
     let mut k = 0;
@@ -81,23 +79,9 @@ pub fn conditions_in_row(conditions: &[u64]) -> bool
     true
 }
 
-// The lowest number that is no element, or the length.
-pub fn first_large(row: &[u64]) -> usize
-    ensures { λ r. ⌜ r ≡ firstLarge (now (row .entry)) ⌝ }
-{
-    let mut c = 0;
-    while c < row.len() {
-        if P <= row[c] {
-            return c;
-        }
-        c += 1;
-    }
-    c
-}
-
 // The first of 12, 13 and 14 that holds, given whether all columns are in the row and no sum has more than four terms.
-pub fn pair_fault(in_row: bool, row: &[u64]) -> PairFault
-    ensures { λ r. ⌜ r ≡ pairFault in_row (now (row .entry)) ⌝ }
+pub fn fault_of(in_row: bool, row: &[u64]) -> PairFault
+    ensures { λ r. ⌜ r ≡ faultOf in_row (now (row .entry)) ⌝ }
 {
     if !in_row {
         return PairFault::OutsideRow;
@@ -112,4 +96,20 @@ pub fn pair_fault(in_row: bool, row: &[u64]) -> PairFault
         };
     }
     PairFault::Fine
+}
+
+// The same of condition columns, three operands and a row.
+pub fn pair_fault(
+    conditions: &[u64],
+    lhs: AddOperand,
+    rhs: AddOperand,
+    sum: AddOperand,
+    row: &[u64],
+) -> PairFault
+    ensures { λ r. ⌜ r ≡ pairFault (now (conditions .entry)) lhs rhs sum (now (row .entry)) ⌝ }
+{
+    fault_of(
+        conditions_in_row(conditions) & operands_in_row(lhs, rhs, sum),
+        row,
+    )
 }

@@ -4,11 +4,11 @@
 pub mod judge;
 pub mod value;
 
-use judge::conditions_in_row;
+use judge::fault_of;
 use judge::operands_in_row;
 use judge::pair_fault;
 use value::carries;
-use value::gated;
+use value::pair_values;
 ghost use mathlib.Core.Path.{_≡_};
 ghost use Rattle.operands.specs.Answers.{pairAnswer, pairNumbers, carryAnswer, carryNumbers};
 
@@ -73,14 +73,14 @@ pub fn emit_add_pair(
 ) -> PairAnswer
     ensures answer { λ r. ⌜ pairNumbers r ≡ pairNumbers (pairAnswer (now (conditions .entry)) lhs rhs sum (now (row .entry))) ⌝ }
 {
-    let in_row = conditions_in_row(conditions) & operands_in_row(lhs, rhs, sum);
-    let found = pair_fault(in_row, row);
+    let found = pair_fault(conditions, lhs, rhs, sum, row);
     match found {
         PairFault::Fine => {
-            let c = carries(lhs, rhs, sum, row);
-            let low = gated(conditions, row, field::element::is_bit(c.low));
-            let high = gated(conditions, row, field::element::is_bit(c.high));
-            PairAnswer::Residues { low, high }
+            let values = pair_values(conditions, lhs, rhs, sum, row);
+            PairAnswer::Residues {
+                low: values.low,
+                high: values.high,
+            }
         }
         PairFault::OutsideRow => PairAnswer::OutsideRow,
         PairFault::NotRow => PairAnswer::NotRow,
@@ -97,7 +97,7 @@ pub fn add_pair_carry_hi(
 ) -> CarryAnswer
     ensures answer { λ r. ⌜ carryNumbers r ≡ carryNumbers (carryAnswer lhs rhs sum (now (row .entry))) ⌝ }
 {
-    let found = pair_fault(operands_in_row(lhs, rhs, sum), row);
+    let found = fault_of(operands_in_row(lhs, rhs, sum), row);
     match found {
         PairFault::Fine => {
             let c = carries(lhs, rhs, sum, row);

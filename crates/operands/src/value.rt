@@ -6,6 +6,7 @@ use crate::TermCell;
 use field::element::INV_SHIFT_32;
 use field::element::P;
 use field::element::add;
+use field::element::is_bit;
 use field::element::mul;
 use field::element::sub;
 ghost use mathlib.Core.Path.{_≡_};
@@ -15,14 +16,21 @@ ghost use lib.ListN.{length};
 ghost use Rattle.field.specs.Field.{p};
 ghost use Rattle.field.specs.Carries.{carryLow, carryHigh};
 ghost use Rattle.copy_row.specs.Columns.{COLUMNS};
-ghost use Rattle.operands.specs.Elements.{ElementRow};
+ghost use Rattle.copy_residues.specs.Cells.{Elements};
 ghost use Rattle.operands.specs.Operands.{signedP, termValue, termsValue, lowValue, highValue, termInRow, sumInRow, operandInRow, operandsInRow, conditionsInRow};
-ghost use Rattle.operands.specs.Pairs.{carryLo, carryHi, conditionSum, gated as gatedBy};
+ghost use Rattle.operands.specs.Pairs.{carryLo, carryHi, conditionSum, gated as gatedBy, residueLo, residueHi};
 
 // The carries c0 and c1.
 pub struct CarryPair {
     pub low: u64,
     pub high: u64,
+}
+
+// The two residues of `emit_add_pair` and the high carry.
+pub struct PairValues {
+    pub low: u64,
+    pub high: u64,
+    pub carry: u64,
 }
 
 // A signed number as an element. The complement of a negative n is |n| - 1.
@@ -64,7 +72,7 @@ fn terms_value(terms: [TermCell; 4], n: usize, row: &[u64]) -> u64
 
 // An operand's low value on a row.
 fn low_value(o: AddOperand, row: &[u64]) -> u64
-    requires { ⌜ (operandInRow o ≡ true) × ElementRow (now row) ⌝ }
+    requires { ⌜ (operandInRow o ≡ true) × Elements (now row) ⌝ }
     ensures { λ r. ⌜ (r ≡ lowValue (now (row .entry)) o) × (r < p) ⌝ }
 {
     let kind = o.kind;
@@ -79,7 +87,7 @@ fn low_value(o: AddOperand, row: &[u64]) -> u64
 
 // An operand's high value on a row.
 fn high_value(o: AddOperand, row: &[u64]) -> u64
-    requires { ⌜ (operandInRow o ≡ true) × ElementRow (now row) ⌝ }
+    requires { ⌜ (operandInRow o ≡ true) × Elements (now row) ⌝ }
     ensures { λ r. ⌜ (r ≡ highValue (now (row .entry)) o) × (r < p) ⌝ }
 {
     let kind = o.kind;
@@ -110,7 +118,7 @@ fn carry_high(a: u64, b: u64, c: u64, s: u64) -> u64
 
 // Both carries of lhs + rhs = sum.
 pub fn carries(lhs: AddOperand, rhs: AddOperand, sum: AddOperand, row: &[u64]) -> CarryPair
-    requires { ⌜ (operandsInRow lhs rhs sum ≡ true) × ElementRow (now row) ⌝ }
+    requires { ⌜ (operandsInRow lhs rhs sum ≡ true) × Elements (now row) ⌝ }
     ensures low { λ r. ⌜ (r .low ≡ carryLo (now (row .entry)) lhs rhs sum) × (r .low < p) ⌝ }
     ensures high { λ r. ⌜ (r .high ≡ carryHi (now (row .entry)) lhs rhs sum) × (r .high < p) ⌝ }
 {
@@ -130,7 +138,7 @@ pub fn carries(lhs: AddOperand, rhs: AddOperand, sum: AddOperand, row: &[u64]) -
 
 // The sum of the condition columns.
 fn condition_sum(conditions: &[u64], row: &[u64]) -> u64
-    requires { ⌜ (conditionsInRow (now conditions) ≡ true) × ElementRow (now row) ⌝ }
+    requires { ⌜ (conditionsInRow (now conditions) ≡ true) × Elements (now row) ⌝ }
     ensures { λ r. ⌜ (r ≡ conditionSum (now (conditions .entry)) (now (row .entry))) × (r < p) ⌝ }
 {
     let mut total: u64 = 0;
@@ -144,12 +152,35 @@ fn condition_sum(conditions: &[u64], row: &[u64]) -> u64
 }
 
 // x, times the sum of the condition columns if there are any.
-pub fn gated(conditions: &[u64], row: &[u64], x: u64) -> u64
-    requires { ⌜ (conditionsInRow (now conditions) ≡ true) × ElementRow (now row) × (x < p) ⌝ }
+fn gated(conditions: &[u64], row: &[u64], x: u64) -> u64
+    requires { ⌜ (conditionsInRow (now conditions) ≡ true) × Elements (now row) × (x < p) ⌝ }
     ensures { λ r. ⌜ (r ≡ gatedBy (now (conditions .entry)) (now (row .entry)) x) × (r < p) ⌝ }
 {
     if conditions.len() == 0 {
         return x;
     }
     mul(condition_sum(conditions, row), x)
+}
+
+// The two residues and the high carry of lhs + rhs = sum.
+pub fn pair_values(
+    conditions: &[u64],
+    lhs: AddOperand,
+    rhs: AddOperand,
+    sum: AddOperand,
+    row: &[u64],
+) -> PairValues
+    requires { ⌜ (conditionsInRow (now conditions) ≡ true) × (operandsInRow lhs rhs sum ≡ true) × Elements (now row) ⌝ }
+    ensures low { λ r. ⌜ r .low ≡ residueLo (now (conditions .entry)) (now (row .entry)) lhs rhs sum ⌝ }
+    ensures high { λ r. ⌜ r .high ≡ residueHi (now (conditions .entry)) (now (row .entry)) lhs rhs sum ⌝ }
+    ensures carry { λ r. ⌜ r .carry ≡ carryHi (now (row .entry)) lhs rhs sum ⌝ }
+{
+    let c = carries(lhs, rhs, sum, row);
+    let low = gated(conditions, row, is_bit(c.low));
+    let high = gated(conditions, row, is_bit(c.high));
+    PairValues {
+        low,
+        high,
+        carry: c.high,
+    }
 }

@@ -1,15 +1,16 @@
 -- Laws of the window: what is read, that reading back what was read changes nothing, that writing keeps lengths, and what the loops need
 -- that read or write cell by cell. Assumes nothing.
 use mathlib.Core.Path.{_≡_, refl, sym, ap, _∙_}
-use mathlib.Core.List.{List, [], _∷_, _++_, append-assoc}
+use mathlib.Core.List.{List, _∷_, _++_, append-assoc}
 use Prim.Native.Nat.{ℕ, zero, suc, _+_, _-_, _≤_, _<_}
 use native.Mathlib.Nat.{add-zero, sub-zero, zero-sub, zero-add, suc-sub-suc}
 use native.Mathlib.Omega.{arith}
-use lib.ListN.{length, take, drop, getD, set, replicate, length-append, length-replicate, take-append-drop, drop-of-length-le}
-use lib.Seq.{take-at, take-append-add, drop-cons, drop-drop, getD-take, length-take-le}
+use lib.ListN.{length, take, drop, getD, set, replicate, length-append, length-replicate, take-append-drop}
+use lib.Seq.{take-at, take-append-add, drop-drop, getD-take, length-take-le}
 use Rattle.records.specs.Lists.{store}
 use Rattle.records.proofs.Store.{store-none, store-more, length-store, store-eq, store-turn, store-end, run-length, run-at}
 use Rattle.copy_row.specs.Calls.{eightAt}
+use Rattle.copy_row.proofs.Ops.{numbersAt, numbers-same}
 use Rattle.access.specs.Access.{accessRecord}
 use Rattle.window.specs.Window.{windowOf, cellsAt, writeBytes, writeStamps, memoryAccess, readAccess, writeAccess}
 
@@ -123,23 +124,18 @@ module _ (a w i t : ℕ) where
 
 -- Eight numbers, one by one
 
-abbrev each : List ℕ → ℕ → ℕ → List ℕ
-each l j zero = []
-each l j (suc n) = getD l j 0 ∷ each l (suc j) n
-
-each-drop : (l : List ℕ) (j n : ℕ) → j + n ≡ length l → each l j n ≡ drop j l
-each-drop l j zero e = sym (drop-of-length-le l {i = j} (omega arith))
-each-drop l j (suc n) e =
-    ap (λ (r : List ℕ). getD l j 0 ∷ r) (each-drop l (suc j) n (omega arith)) ∙ sym (drop-cons l j 0 (omega arith))
-
-each-at : (l : List ℕ) (j n i : ℕ) → i < n → getD (each l j n) i 0 ≡ getD l (j + i) 0
-each-at l j zero i h = absurd (omega arith)
-each-at l j (suc n) zero h = ap (λ (k : ℕ). getD l k 0) (sym (add-zero j))
-each-at l j (suc n) (suc i) h =
-    let e : suc j + i ≡ j + suc i = omega arith in each-at l (suc j) n i (omega arith) ∙ ap (λ (k : ℕ). getD l k 0) e
-
 pub eight : (v : List ℕ) → length v ≡ 8 → eightAt v 0 ≡ v
-eight v e = each-drop v 0 8 (sym e)
+eight v e = numbers-same v 0 8 e
+
+numbers-at : (l : List ℕ) (i n j : ℕ) → j < n → getD (numbersAt l i n) j 0 ≡ getD l (i + j) 0
+numbers-at l i zero j h = absurd (omega arith)
+numbers-at l i (suc n) zero h = ap (λ (k : ℕ). getD l k 0) (sym (add-zero i))
+numbers-at l i (suc n) (suc j) h =
+    let e : i + 1 + j ≡ i + suc j = omega arith in numbers-at l (i + 1) n j (omega arith) ∙ ap (λ (k : ℕ). getD l k 0) e
+
+-- the value bytes of an operation record
+pub value-at : (op : List ℕ) (i : ℕ) → i < 8 → getD (eightAt op 8) i 0 ≡ getD op (8 + i) 0
+value-at op i h = numbers-at op 8 8 i h
 
 -- Records
 
@@ -156,7 +152,3 @@ module _ (b s : List ℕ) (a w t : ℕ) where
   pub write-record : (v : List ℕ) {u o : List ℕ} → u ≡ cellsAt b a w → o ≡ cellsAt s a w
       → accessRecord (memoryAccess a v t w 0 u o) ≡ accessRecord (writeAccess (windowOf b s) a w v t)
   write-record v e f = cc
-
--- the value bytes of an operation record, one by one
-pub value-at : (op : List ℕ) (i : ℕ) → i < 8 → getD (eightAt op 8) i 0 ≡ getD op (8 + i) 0
-value-at op i h = each-at op 8 8 i h

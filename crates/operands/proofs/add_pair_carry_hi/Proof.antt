@@ -3,19 +3,19 @@ use borrow.Author.Needs.{needs}
 use mathlib.Core.Path.{_≡_, sym, ap, _∙_}
 use denote.Ref.{now}
 use Rattle.operands.specs.Operands.{operandsInRow}
-use Rattle.operands.specs.Answers.{pairFault, carryAnswerOf, carryAnswer, carryNumbers}
+use Rattle.operands.specs.Answers.{faultOf, carryAnswerOf, carryAnswer, carryNumbers}
 use Rattle.operands.specs.declared.CarryAnswer.the-variants.{Carry}
 use Rattle.operands.proofs.Answers.{Fine, is-fine, carry-case}
 use Rattle.operands.proofs.add_pair_carry_hi.Statement.{statement}
 use Rattle.operands.proofs.add_pair_carry_hi.Tie as tie
 
 -- what was found is what the definition finds
-judged : (c : tie.After-pair-fault)
-    → c .pair-fault .result
-    ≡ pairFault
+judged : (c : tie.After-fault-of)
+    → c .fault-of .result
+    ≡ faultOf
     (operandsInRow (c .before .before .before .args .lhs) (c .before .before .before .args .rhs)
     (c .before .before .before .args .sum)) (now (c .before .before .before .args .row))
-judged c = c .pair-fault .ensures ∙ ap (λ b. pairFault b (now (c .before .before .before .args .row))) (c .before .operands-in-row .ensures)
+judged c = c .fault-of .ensures ∙ ap (λ b. faultOf b (now (c .before .before .before .args .row))) (c .before .operands-in-row .ensures)
 
 found-fine : (c : tie.After-enum-told)
     → Fine

@@ -1,25 +1,17 @@
--- `judge::pair_fault`: the outcomes in the order of their tests. Assumes nothing.
+-- `judge::pair_fault`: the judgement of what the two tests say. Assumes nothing.
 use borrow.Author.Needs.{needs}
-use borrow.Author.Tests.{not-true, not-false}
-use Rattle.operands.proofs.Answers.{outside, not-row, not-element, fine}
+use mathlib.Core.Path.{ap, _∙_}
+use mathlib.Core.Bool.{_&&_}
+use denote.Ref.{now}
+use Rattle.operands.specs.Answers.{faultOf, pairFault}
 use Rattle.operands.proofs.judge.pair_fault.Statement.{statement}
 use Rattle.operands.proofs.judge.pair_fault.Tie as tie
 
 returns : tie.Need-returns
-returns c = outside _ _ (not-true _ (c .if1 .taken))
-
-returns-2 : tie.Need-returns-2
-returns-2 c = not-row _ _ (not-false _ (c .before .if1 .left)) (c .if2 .taken)
-
-returns-3 : tie.Need-returns-3
-returns-3 c =
-    let tests = c .before .before in
-    not-element _ _ (not-false _ (tests .before .if1 .left)) (tests .if2 .left) (c .before .first-large .ensures) (c .if3 .taken)
-
-returns-4 : tie.Need-returns-4
-returns-4 c =
-    let tests = c .before .before in
-    fine _ _ (not-false _ (tests .before .if1 .left)) (tests .if2 .left) (c .before .first-large .ensures) (c .if3 .left)
+unfolding pairFault
+returns c =
+    let row = now (c .before .before .before .before .before .args .row) in
+    c .fault-of .ensures ∙ (λ i. faultOf (c .before .before .conditions-in-row .ensures i && c .before .operands-in-row .ensures i) row)
 
 pub pair-fault-spec : {M : Type 1} → statement M
-pair-fault-spec = tie.close (tie.spec returns returns-2 (λ c κs. search needs) returns-3 returns-4)
+pair-fault-spec = tie.close (tie.spec (λ c κs. search needs) (λ c κs. search needs) (λ c κs. search needs) returns)

@@ -39,7 +39,7 @@ shared-slice-read-add c =
 
 add-requires : tie.Need-add-requires Inv-loop μ-loop
 add-requires c κs =
-    (c .before .before .before .loop .inv .1 .1, c .before .before .before .before .before .before .pre .1 .elements _)
+    (c .before .before .before .loop .inv .1 .1, c .before .before .before .before .before .before .pre .1 .each _)
 
 loop-again : tie.Need-loop-again Inv-loop μ-loop
 loop-again c =

@@ -18,7 +18,7 @@ terms-value-requires c κs =
 
 returns : tie.Need-returns
 returns c =
-    (words-high (c .before .before .kind .given .1) _ _, c .before .before .before .before .before .pre .1 .elements _)
+    (words-high (c .before .before .kind .given .1) _ _, c .before .before .before .before .before .pre .1 .each _)
 
 returns-2 : tie.Need-returns-2
 returns-2 c = (c .terms-value .ensures .0 ∙ sums-high (c .before .before .before .kind2 .given .1) _ _, c .terms-value .ensures .1)

@@ -1,0 +1,3 @@
+pub mod Walks
+pub mod Terms
+pub mod Answers

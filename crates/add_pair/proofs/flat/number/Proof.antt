@@ -1,0 +1,10 @@
+-- `flat::number`: past the end a list reads as 0. Assumes nothing.
+use borrow.Author.Needs.{needs}
+use denote.Ref.{now}
+use Rattle.add_pair.proofs.Terms.{past}
+use Rattle.add_pair.proofs.flat.number.Statement.{statement}
+use Rattle.add_pair.proofs.flat.number.Tie as tie
+
+pub number-spec : {M : Type 1} → statement M
+number-spec =
+    tie.close (tie.spec (λ c. search needs) (λ c. search needs) (λ c. search needs) (λ c. past (now (c .before .args .list)) (c .before .args .i) (c .if1 .left)))

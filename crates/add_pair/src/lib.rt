@@ -1,0 +1,106 @@
+// `emit_add_pair` and `add_pair_carry_hi` for callers that have numbers and slices only: operands as flat lists. specs/Flat has the form.
+// Assumes nothing.
+mod flat;
+
+use answer::Answer;
+use answer::accept;
+use answer::refuse;
+use flat::flat_form;
+use flat::is_form;
+use flat::operand_of;
+use operands::AddOperand;
+use operands::PairFault;
+use operands::judge::pair_fault;
+use operands::value::pair_values;
+ghost use mathlib.Core.Path.{_≡_};
+ghost use Rattle.add_pair.specs.Flat.{flatOperand};
+ghost use Rattle.add_pair.specs.Answers.{operandsAnswer, addPairAnswer, pairNumbersOf, outAfter, addPairNumbers};
+
+// Where reading a flat list stands.
+pub enum Walk {
+    At(usize),
+    Malformed,
+}
+
+// What a flat list is: two neighbouring columns; two sums, with their numbers of terms and the index of the first high term; or neither.
+pub enum FlatForm {
+    Words { column: u64 },
+    Sums { low: u64, high: u64, start: usize },
+    Malformed,
+}
+
+// Three numbers were written, or a refusal.
+pub enum AddPairAnswer {
+    Written,
+    // 10: a list that is no flat operand
+    Malformed,
+    OutsideRow,
+    NotRow,
+    NotElement { place: u64 },
+}
+
+// The two residues and the high carry of lhs + rhs = sum, for operands that were read.
+fn operands_pair(
+    lhs: AddOperand,
+    rhs: AddOperand,
+    sum: AddOperand,
+    conditions: &[u64],
+    row: &[u64],
+    out: &mut [u64; 3],
+) -> AddPairAnswer
+    ensures answer { λ r. ⌜ r ≡ operandsAnswer lhs rhs sum (now (conditions .entry)) (now (row .entry)) ⌝ }
+    ensures out { λ r. ⌜ now (out .exit) ≡ outAfter r (pairNumbersOf lhs rhs sum (now (conditions .entry)) (now (row .entry))) (now (out .entry)) ⌝ }
+{
+    let found = pair_fault(conditions, lhs, rhs, sum, row);
+    match found {
+        PairFault::Fine => {
+            let values = pair_values(conditions, lhs, rhs, sum, row);
+            *out = [values.low, values.high, values.carry];
+            AddPairAnswer::Written
+        }
+        PairFault::OutsideRow => AddPairAnswer::OutsideRow,
+        PairFault::NotRow => AddPairAnswer::NotRow,
+        PairFault::NotElement { place } => AddPairAnswer::NotElement { place },
+    }
+}
+
+// The same for flat operands.
+pub fn add_pair(
+    lhs: &[u64],
+    rhs: &[u64],
+    sum: &[u64],
+    conditions: &[u64],
+    row: &[u64],
+    out: &mut [u64; 3],
+) -> AddPairAnswer
+    ensures answer { λ r. ⌜ addPairNumbers r ≡ addPairNumbers (addPairAnswer (now (lhs .entry)) (now (rhs .entry)) (now (sum .entry)) (now (conditions .entry)) (now (row .entry))) ⌝ }
+    ensures out { λ r. ⌜ now (out .exit) ≡ outAfter (addPairAnswer (now (lhs .entry)) (now (rhs .entry)) (now (sum .entry)) (now (conditions .entry)) (now (row .entry))) (pairNumbersOf (flatOperand (now (lhs .entry))) (flatOperand (now (rhs .entry))) (flatOperand (now (sum .entry))) (now (conditions .entry)) (now (row .entry))) (now (out .entry)) ⌝ }
+{
+    let lhs_form = flat_form(lhs);
+    let rhs_form = flat_form(rhs);
+    let sum_form = flat_form(sum);
+    if !(is_form(lhs_form) & is_form(rhs_form) & is_form(sum_form)) {
+        return AddPairAnswer::Malformed;
+    }
+    operands_pair(
+        operand_of(lhs, lhs_form),
+        operand_of(rhs, rhs_form),
+        operand_of(sum, sum_form),
+        conditions,
+        row,
+        out,
+    )
+}
+
+// Document 01's number, place and value of an answer.
+pub fn numbers(a: AddPairAnswer) -> Answer
+    ensures { λ r. ⌜ r ≡ addPairNumbers a ⌝ }
+{
+    match a {
+        AddPairAnswer::Written => accept(0),
+        AddPairAnswer::Malformed => refuse(10, 0),
+        AddPairAnswer::OutsideRow => refuse(12, 0),
+        AddPairAnswer::NotRow => refuse(13, 0),
+        AddPairAnswer::NotElement { place } => refuse(14, place),
+    }
+}

@@ -1,0 +1,123 @@
+-- Each pair of residues is what `emit_add_pair` answers on its operands, and each gated one a gate times what `add_pair_carry_hi` answers:
+-- the operands are in the row, and have the values that the definitions write out. Assumes nothing.
+use mathlib.Core.Path.{_≡_, refl, sym, ap, _∙_}
+use mathlib.Core.Bool.{true}
+use mathlib.Core.List.{List, [], _∷_}
+use Prim.Native.Nat.{ℕ, _+_, _^_, _<_}
+use native.Mathlib.Omega.{arith}
+use lib.IntN.{pos}
+use Rattle.field.specs.Field.{p, addP, bitP, mulP, subP}
+use Rattle.field.proofs.Laws.{zero-addP}
+use Rattle.copy_row.specs.Columns.{at, SRC, SRC-INCR, DST, DST-INCR, COUNT, COUNT-DECR, DST-RES, IS-SET, IS-WRITE, MU}
+use Rattle.copy_residues.specs.Cells.{Elements}
+use Rattle.copy_residues.specs.Residues.{residue, halvesWord, incrLow, incrHigh, decrLow, decrHigh, resLow, resHigh, gapLow, gapHigh, gatedBit, noWrap, gapNoWrap, borrow}
+use Rattle.copy_residues.proofs.CountBorrow.{carried}
+use Rattle.operands.specs.Operands.{every, sumP, termInRow, sumInRow, kindInRow, operandsInRow, conditionsInRow}
+use Rattle.operands.specs.Pairs.{carryLo, carryHi, gated, residueLo, residueHi}
+use Rattle.operands.specs.Constructors.{cells, dword, linear, constant, fromDwordHl}
+use Rattle.operands.specs.Answers.{pairAnswer, carryAnswer}
+use Rattle.operands.specs.declared.AddOperand.{AddOperand}
+use Rattle.operands.specs.declared.PairAnswer.the-variants.{Residues}
+use Rattle.operands.specs.declared.CarryAnswer.the-variants.{Carry}
+use Rattle.operands.proofs.Pairs.{carry-lo, carry-hi}
+use Rattle.operands.proofs.Constructors.{dword-low, dword-high, constant-low, constant-high}
+use Rattle.operands.proofs.Answers.{pair-accepted, carry-accepted}
+use Rattle.copy_operands.specs.CopyOperands.{Statement, ResiduesArePairs, Emitted, Gated, stepOperand}
+use Rattle.copy_operands.proofs.Values.{step-low, step-high, word-low, word-high}
+
+-- ---- a pair and a carry from the carries at hand
+
+-- the two carries of a sum, under the names of the residues' definitions
+record Carries (row : List ℕ) (lhs rhs sum : AddOperand) (c0 c1 : ℕ) : Type 0 where
+  low : c0 ≡ carryLo row lhs rhs sum
+  high : c1 ≡ carryHi row lhs rhs sum
+
+module _ (gap : ℕ) (row : List ℕ) (e : Elements row) (lhs rhs sum : AddOperand) (o : operandsInRow lhs rhs sum ≡ true) {c0 c1 : ℕ} (c : Carries row lhs rhs sum c0 c1) where
+  -- with no condition, and with one
+  plain : (i : ℕ) → residue gap row i ≡ bitP c0 → residue gap row (i + 1) ≡ bitP c1 → Emitted gap row i [] lhs rhs sum
+  unfolding conditionsInRow every residueLo residueHi gated
+  plain i f g =
+      let low = sym (f ∙ ap bitP (c .low)) in
+      let high = sym (g ∙ ap bitP (c .high)) in
+      record { pair = pair-accepted lhs rhs sum row e o [] refl ∙ (λ j. Residues (low j) (high j)) }
+
+  conditional : (i k : ℕ) → conditionsInRow (k ∷ []) ≡ true → residue gap row i ≡ mulP (at row k) (bitP c0)
+      → residue gap row (i + 1) ≡ mulP (at row k) (bitP c1)
+      → Emitted gap row i (k ∷ []) lhs rhs sum
+  unfolding residueLo residueHi gated sumP
+  conditional i k h f g =
+      let one = sym (zero-addP (at row k) (e .each k)) in
+      let low = sym (f ∙ (λ n. mulP (one n) (bitP (c .low n)))) in
+      let high = sym (g ∙ (λ n. mulP (one n) (bitP (c .high n)))) in
+      record { pair = pair-accepted lhs rhs sum row e o (k ∷ []) h ∙ (λ j. Residues (low j) (high j)) }
+
+  -- a gate times the high carry
+  gate-times : (i gate : ℕ) → residue gap row i ≡ mulP gate c1 → Gated gap row i gate lhs rhs sum
+  gate-times i gate f = record { carry = c1; answer = carry-accepted lhs rhs sum row e o ∙ ap Carry (sym (c .high)); product = f }
+
+-- ---- the carries of the five sums
+
+module _ (row : List ℕ) (e : Elements row) where
+  -- SRC and DST, with their increments two columns on
+  incr : (c : ℕ) → Carries row (dword c) stepOperand (fromDwordHl (c + 2)) (incrLow row c) (incrHigh row c)
+  unfolding incrLow incrHigh
+  incr c =
+      let c0 = carry-lo row (dword c) stepOperand (fromDwordHl (c + 2)) refl (sym (dword-low row c)) (step-low row) (word-low row e (c + 2)) in
+      let four : c + 4 ≡ c + 2 + 2 = omega arith in
+      record {
+        low = c0;
+        high = carry-hi row (dword c) stepOperand (fromDwordHl (c + 2)) refl (sym (dword-high row c)) (step-high row) c0
+            (ap (halvesWord row) four ∙ word-high row e (c + 2));
+      }
+
+  decr : Carries row (fromDwordHl COUNT-DECR) stepOperand (dword COUNT) (decrLow row) (decrHigh row)
+  unfolding decrLow decrHigh
+  decr =
+      let c0 = carry-lo row (fromDwordHl COUNT-DECR) stepOperand (dword COUNT) refl (word-low row e COUNT-DECR) (step-low row) (sym (dword-low row COUNT)) in
+      record {
+        low = c0;
+        high = carry-hi row (fromDwordHl COUNT-DECR) stepOperand (dword COUNT) refl (word-high row e COUNT-DECR) (step-high row) c0
+            (sym (dword-high row COUNT));
+      }
+
+  res : Carries row (dword DST) (dword COUNT) (fromDwordHl DST-RES) (resLow row) (resHigh row)
+  unfolding resLow resHigh
+  res =
+      let c0 = carry-lo row (dword DST) (dword COUNT) (fromDwordHl DST-RES) refl (sym (dword-low row DST)) (sym (dword-low row COUNT)) (word-low row e DST-RES) in
+      record {
+        low = c0;
+        high = carry-hi row (dword DST) (dword COUNT) (fromDwordHl DST-RES) refl (sym (dword-high row DST)) (sym (dword-high row COUNT)) c0
+            (word-high row e DST-RES);
+      }
+
+  set-gap-carries : (gap : ℕ) → gap < p → Carries row (dword SRC) (constant (pos gap)) (dword DST) (gapLow gap row) (gapHigh gap row)
+  unfolding gapLow gapHigh
+  set-gap-carries gap h =
+      let c0 = carry-lo row (dword SRC) (constant (pos gap)) (dword DST) refl (sym (dword-low row SRC)) (sym (constant-low row gap h)) (sym (dword-low row DST)) in
+      record {
+        low = c0;
+        high = carry-hi row (dword SRC) (constant (pos gap)) (dword DST) refl (sym (dword-high row SRC)) (sym (constant-high row gap)) c0
+            (sym (dword-high row DST));
+      }
+
+-- ---- the residues
+
+pub residues-are-pairs : Statement
+unfolding residue noWrap gapNoWrap gatedBit operandsInRow kindInRow sumInRow termInRow every conditionsInRow dword linear constant fromDwordHl cells stepOperand
+residues-are-pairs gap h row e =
+    let src = incr row e SRC in
+    let dst = incr row e DST in
+    let count = decr row e in
+    let set-gap = set-gap-carries row e gap (omega arith) in
+    record {
+      src-incr = plain gap row e (dword SRC) stepOperand (fromDwordHl SRC-INCR) refl src 10 refl refl;
+      dst-incr = plain gap row e (dword DST) stepOperand (fromDwordHl DST-INCR) refl dst 12 refl refl;
+      count-borrows = plain gap row e (fromDwordHl COUNT-DECR) stepOperand (dword COUNT) refl count 14 refl refl;
+      dst-res-is-write =
+          conditional gap row e (dword DST) (dword COUNT) (fromDwordHl DST-RES) refl (res row e) 16 IS-WRITE refl refl refl;
+      set-gap = conditional gap row e (dword SRC) (constant (pos gap)) (dword DST) refl set-gap 20 IS-SET refl refl refl;
+      src-no-wrap = gate-times gap row e (dword SRC) stepOperand (fromDwordHl SRC-INCR) refl src 37 (subP (at row MU) (borrow row)) refl;
+      dst-no-wrap = gate-times gap row e (dword DST) stepOperand (fromDwordHl DST-INCR) refl dst 38 (subP (at row MU) (borrow row)) refl;
+      gap-no-wrap = gate-times gap row e (dword SRC) (constant (pos gap)) (dword DST) refl set-gap 39 (at row IS-SET) refl;
+      count-borrow = carry-accepted (fromDwordHl COUNT-DECR) stepOperand (dword COUNT) row e refl ∙ ap Carry (sym (count .high) ∙ sym (carried e));
+    }

@@ -1,0 +1,79 @@
+-- The accepted ones of any calls are cut calls that fit, and the records that the expansion wrote are theirs. Two facts of the expansion
+-- are used: an accepted call is sound, and its records are a cut of it. Assumes nothing.
+use mathlib.Core.Path.{_≡_, refl, sym, ap, ap₂, _∙_}
+use mathlib.Core.Bool.{Bool, true, false, cond}
+use mathlib.Core.List.{List, [], _∷_, _++_, map, flatMap}
+use Prim.Native.Nat.{ℕ, _≤_}
+use native.Mathlib.Omega.{arith}
+use borrow.Author.Tests.{eqb-true}
+use lib.Dec.{eqb, lit<}
+use Rattle.copy_row.specs.Calls.{opRecord, kindNumber}
+use Rattle.copy_row.specs.declared.Functionality.{Functionality}
+use Rattle.copy_row.specs.declared.Functionality.the-variants.{Copy, Set, Write}
+use Rattle.copy_meaning.specs.Steps.{All, Words}
+use Rattle.calls.specs.Cuts.{CutCall, cutFrom, opsOf, Fits}
+use Rattle.calls.specs.OpChain.{callsOf}
+use Rattle.expansion_cut.specs.Accepted.{cutOf}
+use Rattle.expansion_cut.proofs.Accepted.{accepted-sound, ops-are-cut, cut-fits, ops-written}
+use Rattle.read_back.specs.ReadBack.{callNumbers}
+use Rattle.demand.specs.Demand.{Try, Typed, callIn, answered, accepted, opsWritten, acceptedOps, acceptedCalls}
+use Rattle.demand.proofs.RowLists.{flatMap-append}
+
+kind-number : (k : Functionality) → kindNumber k ≤ 2
+kind-number Copy = omega arith
+kind-number Set = omega arith
+kind-number Write = omega arith
+
+typed-words : (t : Try) → Typed t → Words (callIn t)
+typed-words t h = record { kind = kind-number (t .kind); stamp = h .stamp; src = h .src; dst = h .dst; count = h .count }
+
+-- the cut call of an accepted one
+abbrev pub cutTry : Try → CutCall
+cutTry t = cutOf (callIn t) (t .slices .bytes)
+
+-- One accepted call
+
+module _ (gap : ℕ) (t : Try) (typed : Typed t) (e : answered gap t .number ≡ 0) where
+  pub try-fits : Fits gap (cutTry t)
+  try-fits =
+      cut-fits gap (callIn t) (t .slices .bytes) (typed .bytes)
+      (accepted-sound 65536 gap (callIn t) (t .slices) (lit< tt) (typed-words t typed) e)
+
+  -- what it wrote are the records of its cut
+  pub try-wrote : opsWritten gap t ≡ flatMap opRecord (cutFrom (callIn t) 1 (cutTry t .pieces))
+  try-wrote =
+      ops-written 65536 gap (callIn t) (t .slices) e ∙ ap (flatMap opRecord) (ops-are-cut (callIn t) (t .slices .bytes) (typed .bytes))
+
+-- All accepted ones
+
+module _ (gap : ℕ) where
+  pub tries-fit : (tries : List Try) → All Typed tries → All (Fits gap) (map cutTry (accepted gap tries))
+  tries-fit [] typed = tt
+  tries-fit (t ∷ tries) typed = go (eqb (answered gap t .number) 0) refl (tries-fit tries (typed .1))
+    where
+      go : (b : Bool) → eqb (answered gap t .number) 0 ≡ b → All (Fits gap) (map cutTry (accepted gap tries))
+          → All (Fits gap) (map cutTry (cond b (t ∷ accepted gap tries) (accepted gap tries)))
+      go true e later = (try-fits gap t (typed .0) (eqb-true _ _ e), later)
+      go false e later = later
+
+  pub tries-wrote : (tries : List Try) → All Typed tries → acceptedOps gap tries ≡ flatMap opRecord (opsOf (map cutTry (accepted gap tries)))
+  unfolding flatMap cutOf
+  tries-wrote [] typed = refl
+  tries-wrote (t ∷ tries) typed = go (eqb (answered gap t .number) 0) refl (tries-wrote tries (typed .1))
+    where
+      go : (b : Bool) → eqb (answered gap t .number) 0 ≡ b
+          → flatMap (opsWritten gap) (accepted gap tries) ≡ flatMap opRecord (opsOf (map cutTry (accepted gap tries)))
+          → flatMap (opsWritten gap) (cond b (t ∷ accepted gap tries) (accepted gap tries))
+          ≡ flatMap opRecord (opsOf (map cutTry (cond b (t ∷ accepted gap tries) (accepted gap tries))))
+      go true e later =
+          ap₂ (λ (a b : List ℕ). a ++ b) (try-wrote gap t (typed .0) (eqb-true _ _ e)) later
+          ∙ sym (flatMap-append opRecord (cutFrom (callIn t) 1 (cutTry t .pieces)) (opsOf (map cutTry (accepted gap tries))))
+      go false e later = later
+
+  pub tries-handed : (tries : List Try) → acceptedCalls gap tries ≡ flatMap callNumbers (callsOf (map cutTry (accepted gap tries)))
+  unfolding flatMap cutOf
+  tries-handed tries = go (accepted gap tries)
+    where
+      go : (ts : List Try) → flatMap (λ t. callNumbers (callIn t)) ts ≡ flatMap callNumbers (callsOf (map cutTry ts))
+      go [] = refl
+      go (t ∷ ts) = ap (λ l. callNumbers (callIn t) ++ l) (go ts)

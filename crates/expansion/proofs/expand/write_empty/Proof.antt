@@ -1,0 +1,35 @@
+-- `expansion::expand::write_empty` meets its contract. Assumes nothing.
+use borrow.Author.Needs.{needs}
+use mathlib.Core.Path.{_≡_, ap, _∙_}
+use mathlib.Core.Bool.{true}
+use mathlib.Core.List.{List}
+use Prim.Native.Nat.{ℕ}
+use denote.Ref.{now}
+use native.Mathlib.Omega.{arith}
+use lib.Dec.{leb}
+use borrow.Author.Tests.{le-leb}
+use Rattle.records.specs.Lists.{store}
+use Rattle.records.proofs.Store.{part-back}
+use Rattle.expansion.proofs.expand.write_empty.Statement.{statement}
+use Rattle.expansion.proofs.expand.write_empty.Tie as tie
+
+returns : tie.Need-returns
+returns c =
+    let a = (c .before .before .before .before .before .before .before .args) in
+    let ops = now (a .ops) in
+    let end : leb (a .call .count) 1 ≡ true = le-leb (a .call .count) 1 (omega (arith, (c .before .before .before .before .before .before .before .pre) .0)) in
+    part-back ops ((c .before .before .put) .last .0) 0 16 (search needs) ((c .before .before .before .before .before .before .before .pre) .1) ((c .before .before .put) .kept .0)
+    ∙ ap (λ (x : List ℕ). store ops 0 x) ((c .before .before .put) .ensures ∙ (c .before .before .before .before .before .op-record) .ensures ∙ rw end)
+
+pub write-empty-spec : {M : Type 1} → statement M
+write-empty-spec =
+    tie.close
+    (tie.spec
+    (λ c κs. search needs)
+    (λ c. search needs)
+    (λ c. search needs)
+    (λ c. search needs)
+    (λ c. search needs)
+    (λ c κs. search needs)
+    (λ c. search needs)
+    returns)

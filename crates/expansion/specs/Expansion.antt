@@ -1,0 +1,87 @@
+-- The expansion of one call over a window: operation records, accesses, and the window afterwards. Document 01: "Output: operation
+-- records and access records, into two buffers, counts in the answer. An empty call gives one row of width 1, value 0, and no access."
+-- The rows and what each does are told in expansion_rows (Rows, Turns, Held). Assumes nothing.
+use Prim.Native.Nat.{ℕ}
+use mathlib.Core.Bool.{cond}
+use mathlib.Core.List.{List, [], _∷_, _++_, flatMap}
+use lib.Dec.{eqb}
+use lib.ListN.{length, replicate}
+use Rattle.records.specs.Lists.{store}
+use Rattle.copy_row.specs.Calls.{Call, Op, opRecord, kindNumber}
+use Rattle.copy_row.specs.declared.Functionality.{Functionality}
+use Rattle.access.specs.Access.{Access, accessRecord}
+use Rattle.window.specs.Window.{Window, windowOf}
+use Rattle.expansion_rows.specs.Rows.{rowsOf}
+use Rattle.expansion_rows.specs.Turns.{rowOps, passBytes, passStamps, passAccesses}
+use Rattle.expansion_rows.specs.Held.{heldAllBytes, heldAllStamps, heldAccesses}
+use Rattle.expansion.specs.declared.ExpansionAnswer.{ExpansionAnswer}
+use Rattle.expansion.specs.declared.ExpansionAnswer.the-variants.{Expanded, GapTooLarge, BadWindow, LastStamp, NotGapApart, PastIndex, OutsideWindow, BufferShort}
+use Rattle.expansion.specs.Refusals.{expansionAnswer}
+
+-- the call that is handed in
+abbrev pub callWith : Functionality → ℕ → ℕ → ℕ → ℕ → Call
+callWith kind timestamp src dst count = record { kind = kindNumber kind; stamp = timestamp; src = src; dst = dst; count = count }
+
+-- the one operation record of an empty call
+abbrev pub emptyOp : Call → Op
+emptyOp c = record { call = c; piece = record { width = 1; value = replicate 8 0 }; first = 1; end = 1 }
+
+abbrev pub orEmpty : Call → List Op → List Op
+orEmpty c [] = emptyOp c ∷ []
+orEmpty c (o ∷ os) = o ∷ os
+
+-- the operation records of a call: those of its rows, and one if there is none
+unfoldable pub callOps : Call → List ℕ → List Op
+callOps c bytes = orEmpty c (rowOps (rowsOf c) bytes)
+
+-- the deferred writes: a Copy's
+abbrev pub deferred : Call → List ℕ → List Op
+deferred c bytes = cond (eqb (c .kind) 0) (rowOps (rowsOf c) bytes) []
+
+-- bytes, stamps and accesses: those of the rows' turns, and then of the deferred writes
+unfoldable pub callBytes : Call → List ℕ → List ℕ
+callBytes c bytes = heldAllBytes (deferred c bytes) (passBytes (rowsOf c) bytes)
+
+unfoldable pub callStamps : Call → Window → List ℕ
+callStamps c m = heldAllStamps (deferred c (m .bytes)) (passStamps (rowsOf c) (m .stamps))
+
+unfoldable pub callAccesses : Call → Window → List Access
+callAccesses c m =
+    passAccesses (rowsOf c) m
+    ++ heldAccesses (deferred c (m .bytes)) (windowOf (passBytes (rowsOf c) (m .bytes)) (passStamps (rowsOf c) (m .stamps)))
+
+-- the four lent slices
+pub record Lent : Type 0 where
+  pub bytes : List ℕ
+  pub stamps : List ℕ
+  pub ops : List ℕ
+  pub accesses : List ℕ
+
+abbrev pub lent : List ℕ → List ℕ → List ℕ → List ℕ → Lent
+lent bytes stamps ops accesses = record { bytes = bytes; stamps = stamps; ops = ops; accesses = accesses }
+
+-- after a call that is accepted: the window as the call leaves it, and its records in the buffers. Numbers past them keep their values
+unfoldable pub expanded : Call → Lent → Lent
+expanded c l =
+    lent (callBytes c (l .bytes)) (callStamps c (windowOf (l .bytes) (l .stamps)))
+    (store (l .ops) 0 (flatMap opRecord (callOps c (l .bytes))))
+    (store (l .accesses) 0 (flatMap accessRecord (callAccesses c (windowOf (l .bytes) (l .stamps)))))
+
+-- the answer, windows having at most `limit` cells
+abbrev pub answerFor : ℕ → ℕ → Call → Lent → ExpansionAnswer
+answerFor limit gap c l = expansionAnswer limit gap c (length (l .bytes)) (length (l .stamps)) (length (l .ops)) (length (l .accesses))
+
+-- a refusal leaves all four as they were
+abbrev pub ifExpanded : ExpansionAnswer → Lent → Lent → Lent
+ifExpanded (Expanded ops accesses) changed kept = changed
+ifExpanded GapTooLarge changed kept = kept
+ifExpanded BadWindow changed kept = kept
+ifExpanded LastStamp changed kept = kept
+ifExpanded NotGapApart changed kept = kept
+ifExpanded PastIndex changed kept = kept
+ifExpanded OutsideWindow changed kept = kept
+ifExpanded BufferShort changed kept = kept
+
+-- the four slices afterwards
+unfoldable pub lentAfter : ℕ → ℕ → Call → Lent → Lent
+lentAfter limit gap c l = ifExpanded (answerFor limit gap c l) (expanded c l) l

@@ -1,0 +1,101 @@
+// Internal to the workspace, not open to callers: the expansion with the limit on cells as a parameter. What moves bytes here knows of
+// no refusal. Assumes nothing but what each `requires` says.
+ghost use mathlib.Core.Path.{_≡_};
+ghost use Prim.Native.Nat.{_*_, _^_, _≤_, _<_};
+ghost use lib.ListN.{length};
+ghost use Rattle.records.specs.Lists.{store};
+ghost use Rattle.copy_row.specs.Calls.{opRecord};
+ghost use Rattle.copy_row.specs.Trace.{OP-WIDTH};
+ghost use Rattle.access.specs.Access.{ACCESS-WIDTH};
+ghost use Rattle.expansion_rows.specs.Rows.{callOf};
+ghost use Rattle.expansion_rows.specs.Inside.{CallInside};
+ghost use Rattle.expansion.specs.Refusals.{opCount, accessCount};
+ghost use Rattle.expansion.specs.Expansion.{emptyOp, lent, expanded, answerFor, lentAfter};
+use crate::ExpansionAnswer;
+use crate::judge::expansion_answer;
+use expansion_rows::CopyCall;
+use expansion_rows::held::write_pass;
+use expansion_rows::rows::op_record;
+use expansion_rows::turns::read_pass;
+use records::lists::put;
+
+// The one operation record of an empty call.
+fn write_empty(call: CopyCall, ops: &mut [u64])
+    requires { ⌜ (call .count ≡ 0) × (OP-WIDTH ≤ length (now ops)) ⌝ }
+    ensures { λ _. ⌜ now (ops .exit) ≡ store (now (ops .entry)) 0 (opRecord (emptyOp (callOf call))) ⌝ }
+{
+    let numbers = op_record(call, 1, 1, [0u8; 8]);
+    put(&mut ops[0..16], &numbers);
+}
+
+// A Copy of some bytes: all rows read, and then they write.
+fn copy_call(
+    call: CopyCall,
+    rows: usize,
+    bytes: &mut [u8],
+    stamps: &mut [u64],
+    ops: &mut [u64],
+    accesses: &mut [u64],
+)
+    requires { ⌜ (call .kind ≡ 0) × (0 < call .count) × CallInside (callOf call) (length (now bytes)) × (length (now stamps) ≡ length (now bytes)) × (rows ≡ opCount (callOf call)) × (OP-WIDTH * opCount (callOf call) ≤ length (now ops)) × (ACCESS-WIDTH * accessCount (callOf call) ≤ length (now accesses)) ⌝ }
+    ensures { λ _. ⌜ lent (now (bytes .exit)) (now (stamps .exit)) (now (ops .exit)) (now (accesses .exit)) ≡ expanded (callOf call) (lent (now (bytes .entry)) (now (stamps .entry)) (now (ops .entry)) (now (accesses .entry))) ⌝ }
+{
+    read_pass(call, bytes, stamps, ops, accesses);
+    let later = call.timestamp + 1;
+    write_pass(rows, rows, later, bytes, stamps, ops, accesses);
+}
+
+// A call that is accepted, of `rows` operation records.
+fn move_call(
+    call: CopyCall,
+    rows: usize,
+    bytes: &mut [u8],
+    stamps: &mut [u64],
+    ops: &mut [u64],
+    accesses: &mut [u64],
+)
+    requires { ⌜ (0 < call .count → CallInside (callOf call) (length (now bytes))) × (length (now stamps) ≡ length (now bytes)) × (rows ≡ opCount (callOf call)) × (OP-WIDTH * opCount (callOf call) ≤ length (now ops)) × (ACCESS-WIDTH * accessCount (callOf call) ≤ length (now accesses)) ⌝ }
+    ensures { λ _. ⌜ lent (now (bytes .exit)) (now (stamps .exit)) (now (ops .exit)) (now (accesses .exit)) ≡ expanded (callOf call) (lent (now (bytes .entry)) (now (stamps .entry)) (now (ops .entry)) (now (accesses .entry))) ⌝ }
+{
+    if call.count == 0 {
+        write_empty(call, ops);
+        return;
+    }
+    if call.kind == 0 {
+        copy_call(call, rows, bytes, stamps, ops, accesses);
+        return;
+    }
+    read_pass(call, bytes, stamps, ops, accesses);
+}
+
+// Expands a call over a window of at most `limit` cells, or refuses and writes nothing.
+pub fn expand(
+    limit: usize,
+    gap: u64,
+    call: CopyCall,
+    bytes: &mut [u8],
+    stamps: &mut [u64],
+    ops: &mut [u64],
+    accesses: &mut [u64],
+) -> ExpansionAnswer
+    requires { ⌜ limit ≤ 2 ^ 20 ⌝ }
+    ensures answer { λ r. ⌜ r ≡ answerFor limit gap (callOf call) (lent (now (bytes .entry)) (now (stamps .entry)) (now (ops .entry)) (now (accesses .entry))) ⌝ }
+    ensures slices { λ _. ⌜ lent (now (bytes .exit)) (now (stamps .exit)) (now (ops .exit)) (now (accesses .exit)) ≡ lentAfter limit gap (callOf call) (lent (now (bytes .entry)) (now (stamps .entry)) (now (ops .entry)) (now (accesses .entry))) ⌝ }
+{
+    let answer = expansion_answer(
+        limit,
+        gap,
+        call,
+        bytes.len(),
+        stamps.len(),
+        ops.len(),
+        accesses.len(),
+    );
+    if let ExpansionAnswer::Expanded {
+        ops: rows,
+        accesses: _,
+    } = answer {
+        move_call(call, rows, bytes, stamps, ops, accesses);
+    }
+    answer
+}

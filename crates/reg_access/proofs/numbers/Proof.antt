@@ -1,0 +1,19 @@
+-- `reg_access::numbers` meets its contract: each arm of the match is a case of the definition. Assumes nothing.
+use mathlib.Core.Path.{sym, ap, _∙_}
+use Rattle.answer.specs.Numbers.{accepted}
+use Rattle.reg_access.specs.RegAccess.{pushNumbers}
+use borrow.Author.Needs.{needs}
+use Rattle.reg_access.proofs.numbers.Statement.{statement}
+use Rattle.reg_access.proofs.numbers.Tie as tie
+
+pub numbers-spec : {M : Type 1} → statement M
+numbers-spec =
+    tie.close
+    (tie.spec
+    (λ c. search needs)
+    (λ c κs. search needs)
+    (λ c κs. search needs)
+    (λ c. search needs)
+    (λ c κs. search needs)
+    (λ c. c .accept .ensures ∙ ap accepted (c .before .route-number .ensures) ∙ ap pushNumbers (sym (c .before .before .before .a .given .1)))
+    (λ c. c .refuse .ensures ∙ ap pushNumbers (sym (c .before .enum-told .given .1))))

@@ -1,0 +1,56 @@
+-- One access of a register, by its six inputs. Document 01: "Also `push_reg_access`: its six inputs (words of 32 bits) to a route and its
+-- record, in the answer itself; 11, place 0, is its one refusal." The route is that of the access record that the Rust would build.
+-- Assumes nothing.
+use mathlib.Core.Path.{_≡_}
+use mathlib.Core.Bool.{Bool, true, cond}
+use mathlib.Core.List.{List, _++_}
+use Prim.Native.Nat.{ℕ, _%_}
+use lib.Dec.{eqb}
+use lib.ListN.{replicate}
+use Rattle.answer.specs.declared.Answer.{Answer}
+use Rattle.answer.specs.Numbers.{accepted, refused}
+use Rattle.copy_row.specs.Columns.{at}
+use Rattle.copy_row.specs.Rows.{bit}
+use Rattle.access.specs.Access.{BASE-ADDRESS, ACCESS-WIDTH, accessRecord}
+use Rattle.access.specs.RegisterAccess.{registerAccess}
+use Rattle.classify.specs.Classify.{lowWord, deltaInRange, classify, routeNumber}
+use Rattle.classify.specs.RouteRecord.{registerRecord, addressFits}
+use Rattle.classify.specs.declared.MemwRoute.{MemwRoute}
+use Rattle.classify.specs.declared.MemwRoute.the-variants.{Register, Aligned, General}
+use Rattle.reg_access.specs.declared.RegAccessAnswer.{RegAccessAnswer}
+use Rattle.reg_access.specs.declared.RegAccessAnswer.the-variants.{Pushed, BadAddress}
+use Rattle.reg_access.specs.declared.RegAccess.{RegAccess}
+
+-- the access record of the six inputs, as `build_reg_fallback` builds it
+unfoldable pub built : ℕ → List ℕ → List ℕ → ℕ → ℕ → Bool → List ℕ
+built address val old timestamp oldTimestamp isRead =
+    accessRecord (registerAccess address val old timestamp oldTimestamp (bit isRead))
+
+-- a record as its route's list has it, and zeros behind the register table's 8 numbers
+abbrev pub written : MemwRoute → List ℕ → List ℕ
+written Register r = registerRecord r ++ replicate 21 0
+written Aligned r = r
+written General r = r
+
+-- the answer for an access record: 11 where it goes to the register table and has no place there
+unfoldable pub pushed : List ℕ → RegAccess
+pushed r =
+    cond (addressFits (classify r) (at r BASE-ADDRESS)) (record { answer = Pushed (classify r); written = written (classify r) r })
+    (record { answer = BadAddress; written = replicate ACCESS-WIDTH 0 })
+
+-- document 01's number, place and value of each case
+abbrev pub pushNumbers : RegAccessAnswer → Answer
+pushNumbers (Pushed route) = accepted (routeNumber route)
+pushNumbers BadAddress = refused 11 0
+
+-- The route by the inputs alone, without the record: no value decides it
+
+abbrev pub routeOf : ℕ → ℕ → ℕ → MemwRoute
+routeOf address timestamp oldTimestamp =
+    cond (deltaInRange timestamp oldTimestamp) Register (cond (eqb (lowWord address % 2) 0) Aligned General)
+
+-- It is that of the record, and it is Register exactly if the stamps are in range. proofs/ shows both.
+pub record RegisterExactly (address : ℕ) (val old : List ℕ) (timestamp oldTimestamp : ℕ) (isRead : Bool) : Type 0 where
+  pub same-route : classify (built address val old timestamp oldTimestamp isRead) ≡ routeOf address timestamp oldTimestamp
+  pub register-in-range : classify (built address val old timestamp oldTimestamp isRead) ≡ Register → deltaInRange timestamp oldTimestamp ≡ true
+  pub in-range-register : deltaInRange timestamp oldTimestamp ≡ true → classify (built address val old timestamp oldTimestamp isRead) ≡ Register
