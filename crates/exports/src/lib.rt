@@ -1,7 +1,9 @@
 // The functions that a Rust or C program links, by `rt staticlib exports`. Each is thin: it calls the entry that it is named for and hands
 // its answer on in numbers. A slice passes as a pointer and a length, an array behind a reference as a pointer. Document 01: "callable
 // from the Rust harness, on numbers and slices". docs/CALLING.md says how to call each. Assumes nothing.
+use access::ACCESS_WIDTH;
 use answer::Answer;
+use records::lists::record_count;
 ghost use mathlib.Core.Path.{_≡_};
 ghost use lib.ListN.{length};
 ghost use Rattle.field.specs.Answers.{addAnswer, subAnswer, mulAnswer, fieldNumbers};
@@ -13,6 +15,10 @@ ghost use Rattle.memw.specs.Tables.{memwAnswer, memwAfter};
 ghost use Rattle.memw_residues.specs.Answers.{residueAnswer as memwResidueAnswer};
 ghost use Rattle.memw_residues.specs.Answers.{residueNumbers as memwResidueNumbers};
 ghost use Rattle.chain.specs.Chain.{chainAnswer, chainNumbers};
+ghost use Rattle.records.specs.Records.{recordCount};
+ghost use Rattle.classify.specs.declared.MemwRoute.the-variants.{Register as ToRegister, Aligned as ToAligned, General as ToGeneral};
+ghost use Rattle.routing.specs.Routing.{routeAnswer, routeAfter, routeNumbers};
+ghost use Rattle.exports.specs.Exports.{routedNumbers, countsAfter};
 
 // a + b modulo p, or 14.
 #[no_mangle]
@@ -112,4 +118,31 @@ pub extern "C" fn chain_check(gap: u64, rows: &[u64]) -> Answer
     ensures answer { λ r. ⌜ r ≡ chainNumbers (chainAnswer gap (now (rows .entry))) ⌝ }
 {
     chain::chain_numbers(chain::chain_check(gap, rows))
+}
+
+// The access records routed into three lists, or 8, 10, 11, 9; the value is the number of records read, and `counts` has how many went
+// to each list.
+#[no_mangle]
+pub extern "C" fn route_accesses(
+    accesses: &[u64],
+    register: &mut [u64],
+    aligned: &mut [u64],
+    general: &mut [u64],
+    counts: &mut [u64; 3],
+) -> Answer
+    ensures answer { λ r. ⌜ r ≡ routedNumbers (recordCount 29 (now (accesses .entry))) (routeNumbers 8 (routeAnswer 65536 (now (accesses .entry)) (length (now (register .entry))) (length (now (aligned .entry))) (length (now (general .entry))))) ⌝ }
+    ensures register { λ r. ⌜ now (register .exit) ≡ routeAfter ToRegister (now (accesses .entry)) (routeAnswer 65536 (now (accesses .entry)) (length (now (register .entry))) (length (now (aligned .entry))) (length (now (general .entry)))) (now (register .entry)) ⌝ }
+    ensures aligned { λ r. ⌜ now (aligned .exit) ≡ routeAfter ToAligned (now (accesses .entry)) (routeAnswer 65536 (now (accesses .entry)) (length (now (register .entry))) (length (now (aligned .entry))) (length (now (general .entry)))) (now (aligned .entry)) ⌝ }
+    ensures general { λ r. ⌜ now (general .exit) ≡ routeAfter ToGeneral (now (accesses .entry)) (routeAnswer 65536 (now (accesses .entry)) (length (now (register .entry))) (length (now (aligned .entry))) (length (now (general .entry)))) (now (general .entry)) ⌝ }
+    ensures counts { λ r. ⌜ now (counts .exit) ≡ countsAfter (routeNumbers 8 (routeAnswer 65536 (now (accesses .entry)) (length (now (register .entry))) (length (now (aligned .entry))) (length (now (general .entry))))) (now (counts .entry)) ⌝ }
+{
+    let routed = routing::numbers(
+        8,
+        routing::route_accesses(accesses, register, aligned, general),
+    );
+    if routed.number != 0 {
+        return answer::refuse(routed.number, routed.place);
+    }
+    *counts = [routed.register, routed.aligned, routed.general];
+    answer::accept(record_count(accesses, ACCESS_WIDTH) as u64)
 }

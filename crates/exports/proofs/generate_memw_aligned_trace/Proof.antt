@@ -5,9 +5,10 @@ use Rattle.exports.proofs.generate_memw_aligned_trace.Statement.{statem
 use Rattle.exports.proofs.generate_memw_aligned_trace.Tie as tie
 
 returns : tie.Need-returns
-returns c =
-    ( c .numbers .ensures ∙ c .before .before .before .generate-memw-aligned-trace .ensures .0
-    , c .before .before .before .generate-memw-aligned-trace .ensures .1)
+returns c = (
+  c .numbers .ensures ∙ c .before .before .before .generate-memw-aligned-trace .ensures .0,
+  c .before .before .before .generate-memw-aligned-trace .ensures .1,
+)
 
 pub generate-memw-aligned-trace-spec : {M : Type 1} → statement M
 generate-memw-aligned-trace-spec = tie.close (tie.spec (λ c κs. search needs) (λ c κs. search needs) (λ c. search needs) returns)

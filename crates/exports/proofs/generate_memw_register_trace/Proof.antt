@@ -5,9 +5,10 @@ use Rattle.exports.proofs.generate_memw_register_trace.Statement.{state
 use Rattle.exports.proofs.generate_memw_register_trace.Tie as tie
 
 returns : tie.Need-returns
-returns c =
-    ( c .numbers .ensures ∙ c .before .before .before .generate-memw-register-trace .ensures .0
-    , c .before .before .before .generate-memw-register-trace .ensures .1)
+returns c = (
+  c .numbers .ensures ∙ c .before .before .before .generate-memw-register-trace .ensures .0,
+  c .before .before .before .generate-memw-register-trace .ensures .1,
+)
 
 pub generate-memw-register-trace-spec : {M : Type 1} → statement M
 generate-memw-register-trace-spec = tie.close (tie.spec (λ c κs. search needs) (λ c κs. search needs) (λ c. search needs) returns)

@@ -5,9 +5,10 @@ use Rattle.exports.proofs.generate_memw_trace.Statement.{statement}
 use Rattle.exports.proofs.generate_memw_trace.Tie as tie
 
 returns : tie.Need-returns
-returns c =
-    ( c .numbers .ensures ∙ c .before .before .before .generate-memw-trace .ensures .0
-    , c .before .before .before .generate-memw-trace .ensures .1)
+returns c = (
+  c .numbers .ensures ∙ c .before .before .before .generate-memw-trace .ensures .0,
+  c .before .before .before .generate-memw-trace .ensures .1,
+)
 
 pub generate-memw-trace-spec : {M : Type 1} → statement M
 generate-memw-trace-spec = tie.close (tie.spec (λ c κs. search needs) (λ c κs. search needs) (λ c. search needs) returns)
