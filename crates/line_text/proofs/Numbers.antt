@@ -13,6 +13,7 @@ use lib.Dec.{ltb, leb}
 use Rattle.line_text.specs.Numbers.{TOP, isDigit, allDigits, decimalFrom, digitOf, isNumber, numberOf}
 use Rattle.line_text.specs.declared.Parsed.{Parsed}
 use Rattle.line_text.specs.declared.Parsed.the-variants.{Number, Bad}
+use Rattle.line_text.proofs.Pieces.{and-false}
 
 -- more digits never make a number smaller
 pub decimal-up : (l : List ℕ) (v : ℕ) → v ≤ decimalFrom v l
@@ -37,10 +38,6 @@ read v l = cond (allDigits l && ltb (decimalFrom v l) TOP) (Number (decimalFrom 
 pick-same : (t : Bool) → cond t Bad Bad ≡ Bad
 pick-same true = refl
 pick-same false = refl
-
-and-false : (t : Bool) → (t && false) ≡ false
-and-false true = refl
-and-false false = refl
 
 -- one digit, with what is known of the rest
 step : (l : List ℕ) (v b : ℕ) (d t : Bool) → isDigit b ≡ d → ltb (10 * v + (b - 48)) TOP ≡ t

@@ -41,7 +41,7 @@ unfolding lines before after indexOf onto
 lines-first x [] = first x [] (eqb x 10) refl refl
 lines-first x (y ∷ ys) = first x (y ∷ ys) (eqb x 10) refl (ap (onto x) (lines-first y ys))
 
-and-false : (t : Bool) → (t && false) ≡ false
+pub and-false : (t : Bool) → (t && false) ≡ false
 and-false true = refl
 and-false false = refl
 

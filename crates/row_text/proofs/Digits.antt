@@ -7,7 +7,7 @@ use mathlib.Core.Bool.{Bool, true, false}
 use mathlib.Core.List.{List, [], _∷_, _++_}
 use native.Mathlib.Omega.{arith}
 use borrow.Author.Tests.{lt-ltb, le-ltb, leb-true, leb-false}
-use lib.Dec.{ltb, leb}
+use lib.Dec.{leb}
 use Rattle.io.specs.Digits.{digits, glyph, Fewest}
 use Rattle.row_text.specs.Rows.{digitsBy, decimalText}
 

@@ -38,8 +38,8 @@ parse-number-spec =
     Inv-loop
     μ-loop
     (λ c. sym (number-none _ (c .if1 .taken)))
-    (λ c. sym (number-long _ (c .if2 .taken)))
-    (λ c. (search needs, number-whole _ (omega arith) (c .if2 .left)))
+    (λ c. sym (number-long _ (omega arith)))
+    (λ c. (search needs, number-whole _ (omega arith) (omega arith)))
     (λ c. search needs)
     (λ c κs. search needs)
     (λ c. search needs)
