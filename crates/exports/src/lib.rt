@@ -18,6 +18,11 @@ ghost use Rattle.chain.specs.Chain.{chainAnswer, chainNumbers};
 ghost use Rattle.records.specs.Records.{recordCount};
 ghost use Rattle.classify.specs.declared.MemwRoute.the-variants.{Register as ToRegister, Aligned as ToAligned, General as ToGeneral};
 ghost use Rattle.routing.specs.Routing.{routeAnswer, routeAfter, routeNumbers};
+ghost use Rattle.answer.specs.Numbers.{accepted};
+ghost use Rattle.registers.specs.Step.{newState};
+ghost use Rattle.register_numbers.specs.RegisterNumbers.{stateNumbers, flatAnswer, stateAfter, recordsAfter};
+ghost use Rattle.add_pair.specs.Flat.{flatOperand};
+ghost use Rattle.add_pair.specs.Answers.{addPairAnswer, pairNumbersOf, outAfter, addPairNumbers};
 ghost use Rattle.exports.specs.Exports.{routedNumbers, countsAfter};
 
 // a + b modulo p, or 14.
@@ -145,4 +150,51 @@ pub extern "C" fn route_accesses(
     }
     *counts = [routed.register, routed.aligned, routed.general];
     answer::accept(record_count(accesses, ACCESS_WIDTH) as u64)
+}
+
+// The state in which a program starts, in 68 numbers.
+#[no_mangle]
+pub extern "C" fn new_register_state(
+    entry_point: u64,
+    stack_top: u64,
+    state: &mut [u64; 68],
+) -> Answer
+    ensures answer { λ r. ⌜ r ≡ accepted 0 ⌝ }
+    ensures state { λ r. ⌜ now (state .exit) ≡ stateNumbers (newState «entry_point» «stack_top») ⌝ }
+{
+    register_numbers::new_register_state(entry_point, stack_top, state)
+}
+
+// The register step of a call, or 10, then 4, 5, 6; the value is the number of access records, and all 116 numbers are written.
+#[no_mangle]
+pub extern "C" fn collect_copy_register_ops(
+    kind: u64,
+    timestamp: u64,
+    src: u64,
+    dst: u64,
+    count: u64,
+    state: &mut [u64; 68],
+    records: &mut [u64; 116],
+) -> Answer
+    ensures answer { λ r. ⌜ r ≡ flatAnswer kind timestamp src dst count (now (state .entry)) ⌝ }
+    ensures state { λ r. ⌜ now (state .exit) ≡ stateAfter kind timestamp src dst count (now (state .entry)) ⌝ }
+    ensures records { λ r. ⌜ now (records .exit) ≡ recordsAfter kind timestamp src dst count (now (state .entry)) (now (records .entry)) ⌝ }
+{
+    register_numbers::collect_copy_register_ops(kind, timestamp, src, dst, count, state, records)
+}
+
+// `emit_add_pair`'s two residues and `add_pair_carry_hi` of flat operands, or 10, 12, 13, 14.
+#[no_mangle]
+pub extern "C" fn add_pair(
+    lhs: &[u64],
+    rhs: &[u64],
+    sum: &[u64],
+    conditions: &[u64],
+    row: &[u64],
+    out: &mut [u64; 3],
+) -> Answer
+    ensures answer { λ r. ⌜ r ≡ addPairNumbers (addPairAnswer (now (lhs .entry)) (now (rhs .entry)) (now (sum .entry)) (now (conditions .entry)) (now (row .entry))) ⌝ }
+    ensures out { λ r. ⌜ now (out .exit) ≡ outAfter (addPairAnswer (now (lhs .entry)) (now (rhs .entry)) (now (sum .entry)) (now (conditions .entry)) (now (row .entry))) (pairNumbersOf (flatOperand (now (lhs .entry))) (flatOperand (now (rhs .entry))) (flatOperand (now (sum .entry))) (now (conditions .entry)) (now (row .entry))) (now (out .entry)) ⌝ }
+{
+    add_pair::numbers(add_pair::add_pair(lhs, rhs, sum, conditions, row, out))
 }
