@@ -23,6 +23,10 @@ ghost use Rattle.registers.specs.Step.{newState};
 ghost use Rattle.register_numbers.specs.RegisterNumbers.{stateNumbers, flatAnswer, stateAfter, recordsAfter};
 ghost use Rattle.add_pair.specs.Flat.{flatOperand};
 ghost use Rattle.add_pair.specs.Answers.{addPairAnswer, pairNumbersOf, outAfter, addPairNumbers};
+ghost use mathlib.Core.List.{[], _∷_};
+ghost use lib.Dec.{eqb};
+ghost use Rattle.reg_access.specs.RegAccess.{built, pushed};
+ghost use Rattle.reg_access_numbers.specs.RegAccessNumbers.{accessAnswer, recordAfter};
 ghost use Rattle.exports.specs.Exports.{routedNumbers, countsAfter};
 
 // a + b modulo p, or 14.
@@ -197,4 +201,34 @@ pub extern "C" fn add_pair(
     ensures out { λ r. ⌜ now (out .exit) ≡ outAfter (addPairAnswer (now (lhs .entry)) (now (rhs .entry)) (now (sum .entry)) (now (conditions .entry)) (now (row .entry))) (pairNumbersOf (flatOperand (now (lhs .entry))) (flatOperand (now (rhs .entry))) (flatOperand (now (sum .entry))) (now (conditions .entry)) (now (row .entry))) (now (out .entry)) ⌝ }
 {
     add_pair::numbers(add_pair::add_pair(lhs, rhs, sum, conditions, row, out))
+}
+
+// The route of one register access, or 10, 11: 0 for the register table, 1 for the aligned, 2 for the general one. The first 8 numbers of
+// `record` are written for route 0, else all 29.
+#[no_mangle]
+pub extern "C" fn push_reg_access(
+    reg_addr: u64,
+    val0: u32,
+    val1: u32,
+    old0: u32,
+    old1: u32,
+    timestamp: u64,
+    old_timestamp: u64,
+    is_read: u64,
+    record: &mut [u64; 29],
+) -> Answer
+    ensures answer { λ r. ⌜ r ≡ accessAnswer «is_read» (pushed (built «reg_addr» (val0 ∷ val1 ∷ []) (old0 ∷ old1 ∷ []) timestamp «old_timestamp» (eqb «is_read» 1))) ⌝ }
+    ensures record { λ r. ⌜ now («record» .exit) ≡ recordAfter «is_read» (pushed (built «reg_addr» (val0 ∷ val1 ∷ []) (old0 ∷ old1 ∷ []) timestamp «old_timestamp» (eqb «is_read» 1))) (now («record» .entry)) ⌝ }
+{
+    reg_access_numbers::push_reg_access(
+        reg_addr,
+        val0,
+        val1,
+        old0,
+        old1,
+        timestamp,
+        old_timestamp,
+        is_read,
+        record,
+    )
 }
