@@ -8,7 +8,7 @@ use Rattle.answer.specs.declared.Answer.{Answer}
 use Rattle.operands.specs.declared.PairFault.{PairFault}
 use Rattle.operands.specs.declared.AddOperand.{AddOperand}
 use Rattle.add_pair.specs.Flat.{flatOperand}
-use Rattle.add_pair.specs.Answers.{isOperand, answerOf, operandsAnswer, addPairAnswer, pairNumbersOf, outAfter, addPairNumbers}
+use Rattle.add_pair.specs.Answers.{isOperand, answerOf, operandsAnswer, addPairAnswer, addPairAfter, pairNumbersOf, outAfter, addPairNumbers}
 use Rattle.add_pair.specs.declared.AddPairAnswer.{AddPairAnswer}
 use Rattle.add_pair.specs.declared.AddPairAnswer.the-variants.{Written, Malformed, OutsideRow, NotRow, NotElement}
 
@@ -22,18 +22,22 @@ module _ (lhs rhs sum conditions row : List ℕ) {formed : Bool} (e : formed ≡
   unfolding addPairAnswer
   malformed f = simp (sym e ∙ f)
 
-  pub malformed-out : formed ≡ false → (numbers out : List ℕ) → out ≡ outAfter (addPairAnswer lhs rhs sum conditions row) numbers out
-  unfolding outAfter
-  malformed-out f numbers out = ap (λ a. outAfter a numbers out) (malformed f)
+  pub malformed-out : formed ≡ false → (out : List ℕ) → out ≡ addPairAfter lhs rhs sum conditions row out
+  unfolding addPairAfter outAfter
+  malformed-out f out =
+      ap (λ a. outAfter a (pairNumbersOf (flatOperand lhs) (flatOperand rhs) (flatOperand sum) conditions row) out) (malformed f)
 
   -- three operands
-  module _ (f : formed ≡ true) {a b c : AddOperand} (x : a ≡ flatOperand lhs) (y : b ≡ flatOperand rhs) (z : c ≡ flatOperand sum) {r : AddPairAnswer} (g : r ≡ operandsAnswer a b c conditions row) where
+  module _ (f : formed ≡ true)
+      {a b c : AddOperand} (x : a ≡ flatOperand lhs) (y : b ≡ flatOperand rhs) (z : c ≡ flatOperand sum)
+      {r : AddPairAnswer} (g : r ≡ operandsAnswer a b c conditions row) where
     pub answered : r ≡ addPairAnswer lhs rhs sum conditions row
     unfolding addPairAnswer
     answered = simp (sym e ∙ f) (g ∙ (λ i. operandsAnswer (x i) (y i) (z i) conditions row))
 
     pub answered-out : (out : List ℕ) {after : List ℕ} → after ≡ outAfter r (pairNumbersOf a b c conditions row) out
-        → after ≡ outAfter (addPairAnswer lhs rhs sum conditions row) (pairNumbersOf (flatOperand lhs) (flatOperand rhs) (flatOperand sum) conditions row) out
+        → after ≡ addPairAfter lhs rhs sum conditions row out
+    unfolding addPairAfter
     answered-out out h = h ∙ (λ i. outAfter (answered i) (pairNumbersOf (x i) (y i) (z i) conditions row) out)
 
 -- an answer is read back from its numbers, so two answers with the same numbers are the same case with the same place

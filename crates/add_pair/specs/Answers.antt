@@ -55,6 +55,11 @@ outAfter OutsideRow numbers out = out
 outAfter NotRow numbers out = out
 outAfter (NotElement place) numbers out = out
 
+unfoldable pub addPairAfter : List ℕ → List ℕ → List ℕ → List ℕ → List ℕ → List ℕ → List ℕ
+addPairAfter lhs rhs sum conditions row out =
+    outAfter (addPairAnswer lhs rhs sum conditions row)
+    (pairNumbersOf (flatOperand lhs) (flatOperand rhs) (flatOperand sum) conditions row) out
+
 -- document 01's number, place and value of each case
 abbrev pub addPairNumbers : AddPairAnswer → Answer
 addPairNumbers Written = accepted 0

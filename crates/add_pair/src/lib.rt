@@ -13,8 +13,7 @@ use operands::PairFault;
 use operands::judge::pair_fault;
 use operands::value::pair_values;
 ghost use mathlib.Core.Path.{_≡_};
-ghost use Rattle.add_pair.specs.Flat.{flatOperand};
-ghost use Rattle.add_pair.specs.Answers.{operandsAnswer, addPairAnswer, pairNumbersOf, outAfter, addPairNumbers};
+ghost use Rattle.add_pair.specs.Answers.{operandsAnswer, addPairAnswer, addPairAfter, pairNumbersOf, outAfter, addPairNumbers};
 
 // Where reading a flat list stands.
 pub enum Walk {
@@ -49,7 +48,8 @@ fn operands_pair(
     out: &mut [u64; 3],
 ) -> AddPairAnswer
     ensures answer { λ r. ⌜ r ≡ operandsAnswer lhs rhs sum (now (conditions .entry)) (now (row .entry)) ⌝ }
-    ensures out { λ r. ⌜ now (out .exit) ≡ outAfter r (pairNumbersOf lhs rhs sum (now (conditions .entry)) (now (row .entry))) (now (out .entry)) ⌝ }
+    ensures out { λ r. ⌜ now (out .exit)
+        ≡ outAfter r (pairNumbersOf lhs rhs sum (now (conditions .entry)) (now (row .entry))) (now (out .entry)) ⌝ }
 {
     let found = pair_fault(conditions, lhs, rhs, sum, row);
     match found {
@@ -73,8 +73,10 @@ pub fn add_pair(
     row: &[u64],
     out: &mut [u64; 3],
 ) -> AddPairAnswer
-    ensures answer { λ r. ⌜ addPairNumbers r ≡ addPairNumbers (addPairAnswer (now (lhs .entry)) (now (rhs .entry)) (now (sum .entry)) (now (conditions .entry)) (now (row .entry))) ⌝ }
-    ensures out { λ r. ⌜ now (out .exit) ≡ outAfter (addPairAnswer (now (lhs .entry)) (now (rhs .entry)) (now (sum .entry)) (now (conditions .entry)) (now (row .entry))) (pairNumbersOf (flatOperand (now (lhs .entry))) (flatOperand (now (rhs .entry))) (flatOperand (now (sum .entry))) (now (conditions .entry)) (now (row .entry))) (now (out .entry)) ⌝ }
+    ensures answer { λ r. ⌜ addPairNumbers r
+        ≡ addPairNumbers (addPairAnswer (now (lhs .entry)) (now (rhs .entry)) (now (sum .entry)) (now (conditions .entry)) (now (row .entry))) ⌝ }
+    ensures out { λ r. ⌜ now (out .exit)
+        ≡ addPairAfter (now (lhs .entry)) (now (rhs .entry)) (now (sum .entry)) (now (conditions .entry)) (now (row .entry)) (now (out .entry)) ⌝ }
 {
     let lhs_form = flat_form(lhs);
     let rhs_form = flat_form(rhs);

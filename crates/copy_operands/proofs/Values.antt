@@ -1,11 +1,11 @@
 -- The operands that copy.rs names have the values that the residues' definitions write out. Assumes nothing.
-use mathlib.Core.Path.{_≡_, refl, sym, ap, _∙_}
+use mathlib.Core.Path.{_≡_, ap, _∙_}
 use mathlib.Core.List.{List, [], _∷_}
 use Prim.Native.Nat.{ℕ, _+_, _<_}
 use native.Mathlib.Omega.{arith}
 use lib.IntN.{pos, negsuc}
 use lib.Dec.{lit<}
-use Rattle.field.specs.Field.{p, addP, mulP}
+use Rattle.field.specs.Field.{addP, mulP}
 use Rattle.copy_row.specs.Columns.{at, SINGLE}
 use Rattle.copy_residues.specs.Residues.{halvesWord, step}
 use Rattle.copy_residues.specs.Cells.{Elements}
@@ -18,19 +18,19 @@ use Rattle.copy_operands.specs.CopyOperands.{stepOperand}
 module _ (row : List ℕ) where
   pub step-low : step row ≡ lowValue row stepOperand
   unfolding step stepOperand termValue signedP
-  step-low = sym (two-low row (Constant (pos 8)) (Column (negsuc 6) SINGLE) (lit< tt))
+  step-low = two-low row (Constant (pos 8)) (Column (negsuc 6) SINGLE) (lit< tt)
 
   pub step-high : 0 ≡ highValue row stepOperand
   unfolding stepOperand
-  step-high = sym (none-high row (Constant (pos 8) ∷ Column (negsuc 6) SINGLE ∷ []))
+  step-high = none-high row (Constant (pos 8) ∷ Column (negsuc 6) SINGLE ∷ [])
 
   module _ (e : Elements row) (c : ℕ) where
     pub word-low : halvesWord row c ≡ lowValue row (fromDwordHl c)
     unfolding halvesWord
-    word-low = sym (halves-low row c (e .each c))
+    word-low = halves-low row c (e .each c)
 
     pub word-high : halvesWord row (c + 2) ≡ highValue row (fromDwordHl c)
     unfolding halvesWord
     word-high =
         let next : c + 2 + 1 ≡ c + 3 = omega arith in
-        ap (λ k. addP (at row (c + 2)) (mulP 65536 (at row k))) next ∙ sym (halves-high row c (e .each (c + 2)))
+        ap (λ k. addP (at row (c + 2)) (mulP 65536 (at row k))) next ∙ halves-high row c (e .each (c + 2))

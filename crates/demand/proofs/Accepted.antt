@@ -13,8 +13,8 @@ use Rattle.copy_row.specs.declared.Functionality.the-variants.{Copy, Set, Write
 use Rattle.copy_meaning.specs.Steps.{All, Words}
 use Rattle.calls.specs.Cuts.{CutCall, cutFrom, opsOf, Fits}
 use Rattle.calls.specs.OpChain.{callsOf}
-use Rattle.expansion_cut.specs.Accepted.{cutOf}
-use Rattle.expansion_cut.proofs.Accepted.{accepted-sound, ops-are-cut, cut-fits, ops-written}
+use Rattle.demand.specs.AcceptedCalls.{cutOf}
+use Rattle.demand.proofs.AcceptedCalls.{accepted-sound, ops-are-cut, cut-fits, ops-written}
 use Rattle.read_back.specs.ReadBack.{callNumbers}
 use Rattle.demand.specs.Demand.{Try, Typed, callIn, answered, accepted, opsWritten, acceptedOps, acceptedCalls}
 use Rattle.demand.proofs.RowLists.{flatMap-append}

@@ -1,2 +1,3 @@
+pub mod AcceptedCalls
 pub mod Demand
 pub mod Instances

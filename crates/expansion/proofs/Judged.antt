@@ -5,14 +5,14 @@ use mathlib.Core.Bool.{Bool, true, false, cond, not, _&&_, _||_}
 use Prim.Native.Nat.{ℕ, zero, suc, _+_, _-_, _*_, _^_, _≤_, _<_}
 use native.Mathlib.Omega.{arith}
 use borrow.Author.Tests.{lt-ltb, ltb-true, ltb-false, leb-false, eq-eqb, ne-eqb, eqb-true, eqb-false, not-false}
-use lib.Dec.{eqb, leb, ltb}
+use lib.Dec.{eqb, ltb}
 use Rattle.access.proofs.Tests.{same-test}
 use Rattle.copy_row.specs.Calls.{Call}
 use Rattle.copy_row.specs.Trace.{OP-WIDTH}
 use Rattle.access.specs.Access.{ACCESS-WIDTH}
 use Rattle.expansion.specs.declared.ExpansionAnswer.{ExpansionAnswer}
 use Rattle.expansion.specs.declared.ExpansionAnswer.the-variants.{Expanded, GapTooLarge, BadWindow, LastStamp, NotGapApart, PastIndex, OutsideWindow, BufferShort}
-use Rattle.expansion.specs.Refusals.{opCount, accessCount, refusals, expansionAnswer, expansionNumbers}
+use Rattle.expansion.specs.Refusals.{opCount, accessCount, refusals, expansionAnswer, expansionNumbers, gapTooLarge, badWindow, lastStamp, notGapApart, pastIndex, outsideWindow, bufferShort}
 
 -- Tests
 
@@ -51,12 +51,12 @@ pub record Fair (limit gap : ℕ) (c : Call) (cells stamped : ℕ) : Type 0 wher
   pub dest : 0 < c .count → (c .kind ≡ 2 → ⊥) → c .dst + c .count ≤ cells
 
 pub fair : (limit gap : ℕ) (c : Call) (cells stamped : ℕ)
-    → leb (2 ^ 32) gap ≡ false
-    → (not (eqb cells stamped) || ltb limit cells) ≡ false
-    → eqb (c .stamp) (2 ^ 64 - 1) ≡ false
-    → (eqb (c .kind) 1 && not (eqb (c .dst) (c .src + gap))) ≡ false
-    → (eqb (c .kind) 2 && ltb (2 ^ 32 - 1) (c .dst + c .count)) ≡ false
-    → (not (eqb (c .count) 0) && (ltb cells (c .src + c .count) || (not (eqb (c .kind) 2) && ltb cells (c .dst + c .count)))) ≡ false
+    → gapTooLarge gap ≡ false
+    → badWindow limit cells stamped ≡ false
+    → lastStamp c ≡ false
+    → notGapApart gap c ≡ false
+    → pastIndex c ≡ false
+    → outsideWindow c cells ≡ false
     → Fair limit gap c cells stamped
 fair limit gap c cells stamped t₇ t₈ t₁ t₃ t₅ t₂ =
     let window = or-fails (not (eqb cells stamped)) (ltb limit cells) t₈ in
@@ -104,23 +104,23 @@ module _ (limit gap : ℕ) (c : Call) (cells stamped : ℕ) (f : Fair limit gap 
 
 module _
     (limit gap : ℕ) (c : Call) (cells stamped opsRoom accessesRoom : ℕ)
-    (t₇ : leb (2 ^ 32) gap ≡ false)
-    (t₈ : (not (eqb cells stamped) || ltb limit cells) ≡ false)
-    (t₁ : eqb (c .stamp) (2 ^ 64 - 1) ≡ false)
-    (t₃ : (eqb (c .kind) 1 && not (eqb (c .dst) (c .src + gap))) ≡ false)
-    (t₅ : (eqb (c .kind) 2 && ltb (2 ^ 32 - 1) (c .dst + c .count)) ≡ false)
-    (t₂ : (not (eqb (c .count) 0) && (ltb cells (c .src + c .count) || (not (eqb (c .kind) 2) && ltb cells (c .dst + c .count)))) ≡ false)
+    (t₇ : gapTooLarge gap ≡ false)
+    (t₈ : badWindow limit cells stamped ≡ false)
+    (t₁ : lastStamp c ≡ false)
+    (t₃ : notGapApart gap c ≡ false)
+    (t₅ : pastIndex c ≡ false)
+    (t₂ : outsideWindow c cells ≡ false)
     (ops accesses : ℕ) (eo : ops ≡ opCount c) (ea : accesses ≡ accessCount c) where
-  room : (b : Bool) → (ltb opsRoom (OP-WIDTH * ops) || ltb accessesRoom (ACCESS-WIDTH * accesses)) ≡ b
-      → (ltb opsRoom (OP-WIDTH * opCount c) || ltb accessesRoom (ACCESS-WIDTH * accessCount c)) ≡ b
+  room : (b : Bool) → bufferShort ops accesses opsRoom accessesRoom ≡ b
+      → bufferShort (opCount c) (accessCount c) opsRoom accessesRoom ≡ b
   room b e = cc
 
-  pub answer-short : (ltb opsRoom (OP-WIDTH * ops) || ltb accessesRoom (ACCESS-WIDTH * accesses)) ≡ true
+  pub answer-short : bufferShort ops accesses opsRoom accessesRoom ≡ true
       → BufferShort ≡ expansionAnswer limit gap c cells stamped opsRoom accessesRoom
   unfolding expansionAnswer refusals
   answer-short e = rw (t₇, t₈, t₁, t₃, t₅, t₂, room true e)
 
-  pub answer-expanded : (ltb opsRoom (OP-WIDTH * ops) || ltb accessesRoom (ACCESS-WIDTH * accesses)) ≡ false
+  pub answer-expanded : bufferShort ops accesses opsRoom accessesRoom ≡ false
       → Expanded ops accesses ≡ expansionAnswer limit gap c cells stamped opsRoom accessesRoom
   unfolding expansionAnswer refusals
   answer-expanded e = rw (t₇, t₈, t₁, t₃, t₅, t₂, room false e) (cc (eo, ea))

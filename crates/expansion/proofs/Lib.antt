@@ -1,2 +1,9 @@
 pub mod Judged
 pub mod Moved
+pub mod Cut
+pub mod At
+pub mod ByRow
+pub mod Kept
+pub mod Copied
+pub mod SetMoves
+pub mod Consequences

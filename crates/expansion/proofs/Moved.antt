@@ -122,13 +122,13 @@ module _ (c : Call) (l : Lent) (none : c .count ≡ 0) where
 
 -- A call of some bytes
 
-module _ (c : Call) (l : Lent) (some : 0 < c .count) where
-  some-ops : callOps c (l .bytes) ≡ rowOps (rowsOf c) (l .bytes)
-  unfolding callOps rowOps
-  some-ops =
-      let e = rows-next c (copyRowWidth c) 1 refl some in
-      ap (λ (rs : List Row). orEmpty c (rowOps rs (l .bytes))) e ∙ sym (ap (λ (rs : List Row). rowOps rs (l .bytes)) e)
+pub some-ops : (c : Call) (bytes : List ℕ) → 0 < c .count → callOps c bytes ≡ rowOps (rowsOf c) bytes
+unfolding callOps rowOps
+some-ops c bytes some =
+    let e = rows-next c (copyRowWidth c) 1 refl some in
+    ap (λ (rs : List Row). orEmpty c (rowOps rs bytes)) e ∙ sym (ap (λ (rs : List Row). rowOps rs bytes) e)
 
+module _ (c : Call) (l : Lent) (some : 0 < c .count) where
   -- no Copy: what the turns leave
   pub expanded-pass : (c .kind ≡ 0 → ⊥)
       → lent (passBytes (rowsOf c) (l .bytes)) (passStamps (rowsOf c) (l .stamps)) (store (l .ops) 0 (flatMap opRecord (rowOps (rowsOf c) (l .bytes))))
@@ -136,7 +136,7 @@ module _ (c : Call) (l : Lent) (some : 0 < c .count) where
       ≡ expanded c l
   unfolding expanded callBytes callStamps callAccesses heldAllBytes heldAllStamps heldAccesses
   expanded-pass other =
-      rw (some-ops, ne-eqb (c .kind) 0 other)
+      rw (some-ops c (l .bytes) some, ne-eqb (c .kind) 0 other)
       (ap
       (λ (x : List Access).
       lent (passBytes (rowsOf c) (l .bytes)) (passStamps (rowsOf c) (l .stamps)) (store (l .ops) 0 (flatMap opRecord (rowOps (rowsOf c) (l .bytes))))
@@ -208,7 +208,7 @@ module _
       ∙ cc (back, eb, es, ea)
       ∙ sym (store-append a 0 (flatMap accessRecord reads) (flatMap accessRecord (heldAccesses os m₁)))
       ∙ ap (λ (x : List ℕ). store a 0 x) (sym (flatMap-append accessRecord reads (heldAccesses os m₁))) in
-      rw (some-ops c (lent b s o a) some, eq-eqb (c .kind) 0 copy) (cc (fb, fs, back, eb, es, eo, accesses-are))
+      rw (some-ops c b some, eq-eqb (c .kind) 0 copy) (cc (fb, fs, back, eb, es, eo, accesses-are))
 
 pub empty-room : (c : Call) {n : ℕ} → c .count ≡ 0 → OP-WIDTH * opCount c ≤ n → OP-WIDTH ≤ n
 empty-room c none room = rw (eq-eqb (c .count) 0 none) at room

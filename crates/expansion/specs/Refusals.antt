@@ -22,6 +22,39 @@ opCount c = cond (eqb (c .count) 0) 1 (length (rowsOf c))
 abbrev pub accessCount : Call → ℕ
 accessCount c = cond (eqb (c .kind) 2) (length (rowsOf c)) (2 * length (rowsOf c))
 
+-- The tests, in document 01's words; `cells` and `stamped` are the lengths of the window's two slices
+
+-- 7: "gap is 2^32 or more"
+abbrev pub gapTooLarge : ℕ → Bool
+gapTooLarge gap = leb (2 ^ 32) gap
+
+-- 8: "window slices unequal or above 65,536 cells"
+abbrev pub badWindow : ℕ → ℕ → ℕ → Bool
+badWindow limit cells stamped = not (eqb cells stamped) || ltb limit cells
+
+-- 1: "expansion with stamp 2^64 − 1"
+abbrev pub lastStamp : Call → Bool
+lastStamp c = eqb (c .stamp) (2 ^ 64 - 1)
+
+-- 3: "Set, and dst is not src + gap as a plain sum"
+abbrev pub notGapApart : ℕ → Call → Bool
+notGapApart gap c = eqb (c .kind) 1 && not (eqb (c .dst) (c .src + gap))
+
+-- 5: "Write, and dst + count above 2^32 − 1"
+abbrev pub pastIndex : Call → Bool
+pastIndex c = eqb (c .kind) 2 && ltb (2 ^ 32 - 1) (c .dst + c .count)
+
+-- 2: "count not 0, and src + count, or for Copy and Set dst + count, is above the window's length"
+abbrev pub outsideWindow : Call → ℕ → Bool
+outsideWindow c cells =
+    not (eqb (c .count) 0) && (ltb cells (c .src + c .count) || (not (eqb (c .kind) 2) && ltb cells (c .dst + c .count)))
+
+-- 9: "an output buffer shorter than the result"
+abbrev pub bufferShort : ℕ → ℕ → ℕ → ℕ → Bool
+bufferShort ops accesses opsRoom accessesRoom = ltb opsRoom (OP-WIDTH * ops) || ltb accessesRoom (ACCESS-WIDTH * accesses)
+
+-- The list of them
+
 -- a refusal, and whether it holds
 pub record Refusal : Type 0 where
   pub answer : ExpansionAnswer
@@ -35,24 +68,16 @@ abbrev pub firstRefusal : List Refusal → ExpansionAnswer → ExpansionAnswer
 firstRefusal [] answer = answer
 firstRefusal (r ∷ rs) answer = cond (r .holds) (r .answer) (firstRefusal rs answer)
 
--- all refusals of a call over `cells` bytes and `stamped` stamps, in their order. `limit` is the most cells that a window may have
+-- all refusals in their order; a window has at most `limit` cells, and the buffers have room for so many numbers
 unfoldable pub refusals : ℕ → ℕ → Call → ℕ → ℕ → ℕ → ℕ → List Refusal
 refusals limit gap c cells stamped opsRoom accessesRoom =
-    -- 7: "gap is 2^32 or more"
-    refuse GapTooLarge (leb (2 ^ 32) gap)
-    -- 8: "window slices unequal or above 65,536 cells"
-    ∷ refuse BadWindow (not (eqb cells stamped) || ltb limit cells)
-    -- 1: "expansion with stamp 2^64 − 1"
-    ∷ refuse LastStamp (eqb (c .stamp) (2 ^ 64 - 1))
-    -- 3: "Set, and dst is not src + gap as a plain sum"
-    ∷ refuse NotGapApart (eqb (c .kind) 1 && not (eqb (c .dst) (c .src + gap)))
-    -- 5: "Write, and dst + count above 2^32 − 1"
-    ∷ refuse PastIndex (eqb (c .kind) 2 && ltb (2 ^ 32 - 1) (c .dst + c .count))
-    -- 2: "count not 0, and src + count, or for Copy and Set dst + count, is above the window's length"
-    ∷ refuse OutsideWindow
-    (not (eqb (c .count) 0) && (ltb cells (c .src + c .count) || (not (eqb (c .kind) 2) && ltb cells (c .dst + c .count))))
-    -- 9: "an output buffer shorter than the result"
-    ∷ refuse BufferShort (ltb opsRoom (OP-WIDTH * opCount c) || ltb accessesRoom (ACCESS-WIDTH * accessCount c))
+    refuse GapTooLarge (gapTooLarge gap)
+    ∷ refuse BadWindow (badWindow limit cells stamped)
+    ∷ refuse LastStamp (lastStamp c)
+    ∷ refuse NotGapApart (notGapApart gap c)
+    ∷ refuse PastIndex (pastIndex c)
+    ∷ refuse OutsideWindow (outsideWindow c cells)
+    ∷ refuse BufferShort (bufferShort (opCount c) (accessCount c) opsRoom accessesRoom)
     ∷ []
 
 -- the answer

@@ -1,12 +1,11 @@
 // Internal to the workspace, not open to callers: the answer for a call, which writes nothing. The limit on cells is a parameter. Assumes
 // nothing but what each `requires` says.
 ghost use mathlib.Core.Path.{_≡_};
-ghost use mathlib.Core.Bool.{not, _&&_, _||_};
 ghost use Prim.Native.Nat.{_+_, _-_, _*_, _^_, _≤_, _<_};
-ghost use lib.Dec.{eqb, ltb};
+ghost use lib.Dec.{ltb};
 ghost use lib.ListN.{length};
 ghost use Rattle.expansion_rows.specs.Rows.{callOf, rowsOf};
-ghost use Rattle.expansion.specs.Refusals.{opCount, accessCount, expansionAnswer};
+ghost use Rattle.expansion.specs.Refusals.{opCount, accessCount, notGapApart, pastIndex, outsideWindow, expansionAnswer};
 use crate::ExpansionAnswer;
 use expansion_rows::CopyCall;
 use expansion_rows::rows::row_count;
@@ -23,7 +22,7 @@ fn past(end: u64, at: u64, count: u64) -> bool
 
 // 3: a Set whose dst is not src + gap.
 fn not_gap_apart(call: CopyCall, gap: u64) -> bool
-    ensures { λ r. ⌜ r ≡ (eqb (call .kind) 1 && not (eqb (call .dst) (call .src + gap))) ⌝ }
+    ensures { λ r. ⌜ r ≡ notGapApart gap (callOf call) ⌝ }
 {
     if call.kind != 1 {
         return false;
@@ -36,7 +35,7 @@ fn not_gap_apart(call: CopyCall, gap: u64) -> bool
 
 // 5: a Write past index 2^32 - 1.
 fn past_index(call: CopyCall) -> bool
-    ensures { λ r. ⌜ r ≡ (eqb (call .kind) 2 && ltb (2 ^ 32 - 1) (call .dst + call .count)) ⌝ }
+    ensures { λ r. ⌜ r ≡ pastIndex (callOf call) ⌝ }
 {
     if call.kind != 2 {
         return false;
@@ -46,7 +45,7 @@ fn past_index(call: CopyCall) -> bool
 
 // 2: cells outside a window of `cells` cells; a Write's destination is no cell.
 fn outside(call: CopyCall, cells: u64) -> bool
-    ensures { λ r. ⌜ r ≡ (not (eqb (call .count) 0) && (ltb cells (call .src + call .count) || (not (eqb (call .kind) 2) && ltb cells (call .dst + call .count)))) ⌝ }
+    ensures { λ r. ⌜ r ≡ outsideWindow (callOf call) cells ⌝ }
 {
     if call.count == 0 {
         return false;

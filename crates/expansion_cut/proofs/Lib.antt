@@ -1,3 +1,2 @@
 pub mod Bytes
 pub mod RowsCut
-pub mod Accepted

@@ -15,7 +15,8 @@ use Rattle.records.proofs.First.{first-all}
 use Rattle.copy_row.specs.Columns.{at, COLUMNS}
 use Rattle.copy_residues.specs.Range.{firstLarge}
 use Rattle.copy_residues.specs.Cells.{Elements}
-use Rattle.operands.specs.Answers.{faultOf, pairFault, pairAnswerOf, pairAnswer, carryAnswerOf, carryAnswer, PairNumbers, pairNumbers, carryNumbers}
+use Rattle.operands.specs.Answers.{faultOf, pairFault, pairAnswerOf, pairAnswer, carryAnswerOf, carryAnswer}
+use Rattle.operands.specs.Answers.{PairNumbers, pairNumbers, carryNumbers}
 use Rattle.operands.specs.Operands.{conditionsInRow, operandsInRow}
 use Rattle.operands.specs.Pairs.{carryHi, residueLo, residueHi}
 use Rattle.operands.specs.declared.AddOperand.{AddOperand}

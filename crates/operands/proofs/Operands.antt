@@ -7,7 +7,8 @@ use native.Mathlib.Omega.{arith}
 use borrow.Author.Tests.{le-leb, lt-leb, leb-true, lt-ltb, le-ltb, ltb-true, ltb-false}
 use lib.Dec.{ltb, leb}
 use Rattle.copy_row.specs.Columns.{at, COLUMNS}
-use Rattle.operands.specs.Operands.{every, termInRow, termAt, sumInRow, kindInRow, operandInRow, operandsInRow, termsValue, lowOf, highOf, TERMS}
+use Rattle.operands.specs.Operands.{termAt, termsValue, lowOf, highOf, TERMS}
+use Rattle.operands.specs.Operands.{every, termInRow, sumInRow, kindInRow, operandInRow, operandsInRow}
 use Rattle.operands.specs.declared.TermCell.{TermCell}
 use Rattle.operands.specs.declared.OperandKind.{OperandKind}
 use Rattle.operands.specs.declared.OperandKind.the-variants.{Words, Sums}

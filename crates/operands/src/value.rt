@@ -1,4 +1,5 @@
-// Internal to the workspace, not open to callers: values of terms and operands on a copy row, and the carries of their sums. Assumes nothing.
+// Internal to the workspace, not open to callers: values of terms and operands on a copy row, and the carries and residues of their sums.
+// Assumes nothing.
 use crate::AddLinearTerm;
 use crate::AddOperand;
 use crate::OperandKind;
@@ -17,7 +18,8 @@ ghost use Rattle.field.specs.Field.{p};
 ghost use Rattle.field.specs.Carries.{carryLow, carryHigh};
 ghost use Rattle.copy_row.specs.Columns.{COLUMNS};
 ghost use Rattle.copy_residues.specs.Cells.{Elements};
-ghost use Rattle.operands.specs.Operands.{signedP, termValue, termsValue, lowValue, highValue, termInRow, sumInRow, operandInRow, operandsInRow, conditionsInRow};
+ghost use Rattle.operands.specs.Operands.{signedP, termValue, termsValue, lowValue, highValue};
+ghost use Rattle.operands.specs.Operands.{termInRow, sumInRow, operandInRow, operandsInRow, conditionsInRow};
 ghost use Rattle.operands.specs.Pairs.{carryLo, carryHi, conditionSum, gated as gatedBy, residueLo, residueHi};
 
 // The carries c0 and c1.

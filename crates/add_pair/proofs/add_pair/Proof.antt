@@ -25,7 +25,7 @@ formed c =
 returns : tie.Need-returns
 returns c = (
   ap addPairNumbers (malformed _ _ _ _ _ (formed (c .before)) (not-true _ (c .if1 .taken))),
-  malformed-out _ _ _ _ _ (formed (c .before)) (not-true _ (c .if1 .taken)) _ _,
+  malformed-out _ _ _ _ _ (formed (c .before)) (not-true _ (c .if1 .taken)) _,
 )
 
 returns-2 : tie.Need-returns-2

@@ -1,6 +1,6 @@
 -- `operands_pair`: the judgement decides the case, and where nothing is refused three numbers are written. Assumes nothing.
 use borrow.Author.Needs.{needs}
-use mathlib.Core.Path.{refl, sym, ap, _∙_}
+use mathlib.Core.Path.{refl, sym, _∙_}
 use mathlib.Core.List.{[], _∷_}
 use Rattle.operands.proofs.Answers.{pair-fine}
 use Rattle.add_pair.specs.Answers.{answerOf, operandsAnswer, pairNumbersOf, outAfter}

@@ -1,7 +1,7 @@
 -- `flat::after_terms`: what is left of the walk from here gives the whole walk's end. Assumes nothing.
 use borrow.Author.Needs.{needs}
-use mathlib.Core.Path.{_≡_, refl}
-use Prim.Native.Nat.{ℕ, _-_, _≤_}
+use mathlib.Core.Path.{_≡_}
+use Prim.Native.Nat.{_-_, _≤_}
 use native.Mathlib.Omega.{arith}
 use Rattle.add_pair.specs.declared.Walk.the-variants.{At}
 use Rattle.add_pair.specs.Flat.{afterTerms}

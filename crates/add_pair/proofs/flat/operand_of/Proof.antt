@@ -1,8 +1,7 @@
 -- `flat::operand_of`: by the form's case. Assumes nothing.
 use borrow.Author.Needs.{needs}
-use mathlib.Core.Path.{_≡_, sym, ap, _∙_}
+use mathlib.Core.Path.{sym, ap, _∙_}
 use Rattle.operands.specs.declared.OperandKind.the-variants as kind
-use Rattle.operands.specs.declared.AddOperand.{AddOperand}
 use Rattle.add_pair.specs.Flat.{operandOf}
 use Rattle.add_pair.proofs.flat.operand_of.Statement.{statement}
 use Rattle.add_pair.proofs.flat.operand_of.Tie as tie

@@ -1,6 +1,5 @@
 -- `flat::signed`: the bits below 2^63 are the number, and the others the complement of their complement. Assumes nothing.
 use borrow.Author.Needs.{needs}
-use native.Mathlib.Omega.{arith}
 use Rattle.add_pair.proofs.Terms.{signed-low, signed-high}
 use Rattle.add_pair.proofs.flat.signed.Statement.{statement}
 use Rattle.add_pair.proofs.flat.signed.Tie as tie

@@ -1,7 +1,6 @@
 -- `flat::term_from`: past the end the constant 0, else by the tag. A signed number that is put into a term reads back as itself. Assumes
 -- nothing.
 use borrow.Author.Needs.{needs}
-use native.Mathlib.Omega.{arith}
 use mir.Facts.{toZ-ofZ}
 use mir.Syntax.{w64}
 use Rattle.add_pair.proofs.Terms.{term-past, term-constant, term-column}

@@ -1,6 +1,6 @@
 -- `judge::pair_fault`: the judgement of what the two tests say. Assumes nothing.
 use borrow.Author.Needs.{needs}
-use mathlib.Core.Path.{ap, _∙_}
+use mathlib.Core.Path.{_∙_}
 use mathlib.Core.Bool.{_&&_}
 use denote.Ref.{now}
 use Rattle.operands.specs.Answers.{faultOf, pairFault}

@@ -1,16 +1,14 @@
 -- `value::term_value`: by the term's case; a signed number that is passed on reads back as itself. Assumes nothing.
 use borrow.Author.Needs.{needs}
 use borrow.Author.Tests.{ltb-true}
-use mathlib.Core.Path.{_≡_, sym, ap, _∙_, subst}
-use mathlib.Core.Bool.{true}
+use mathlib.Core.Path.{_≡_, sym, ap, _∙_}
 use Prim.Native.Nat.{ℕ, _<_}
 use native.Mathlib.Omega.{arith}
 use denote.Ref.{now}
-use lib.ListN.{length, getD}
 use mir.Syntax.{w64}
 use mir.Val.{toZ, ofZ}
 use mir.Facts.{toZ-ofZ}
-use Rattle.field.specs.Field.{p, mulP}
+use Rattle.field.specs.Field.{mulP}
 use Rattle.copy_row.specs.Columns.{COLUMNS, at}
 use Rattle.operands.specs.Operands.{signedP, termValue, termInRow}
 use Rattle.operands.proofs.value.term_value.Statement.{statement}
@@ -35,7 +33,8 @@ returns c =
 returns-2 : tie.Need-returns-2
 unfolding termValue
 returns-2 c =
-    let y = at (now (c .before .before .before .before .before .before .before .args .row)) (c .before .before .before .before .t2 .given .0 .1 .0) in (
+    let row = now (c .before .before .before .before .before .before .before .args .row) in
+    let y = at row (c .before .before .before .before .t2 .given .0 .1 .0) in (
       c .mul .ensures .0
           ∙ ap (λ (x : ℕ). mulP x y) (c .before .before .from-signed2 .ensures .0 ∙ ap signedP (back (c .before .before .before)))
           ∙ sym (ap (termValue _) (c .before .before .before .before .t2 .given .1)),

@@ -1,12 +1,12 @@
 -- `value::terms_value`: the total is the sum of the terms passed. Assumes nothing.
 use borrow.Author.Needs.{needs}
-use mathlib.Core.Path.{_≡_, sym, ap, _∙_, subst}
-use Prim.Native.Nat.{ℕ, _-_, _≤_, _<_}
+use mathlib.Core.Path.{_≡_}
+use Prim.Native.Nat.{_-_, _≤_, _<_}
 use native.Mathlib.Omega.{arith}
 use Rattle.field.specs.Field.{p}
 use Rattle.operands.specs.Operands.{termsValue}
 use Rattle.operands.proofs.Operands.{sum-few, sum-term}
-use Rattle.operands.proofs.Sums.{sum-below, sum-none, sum-next, sum-end}
+use Rattle.operands.proofs.Sums.{sum-none, sum-next, sum-end}
 use Rattle.operands.proofs.value.terms_value.Statement.{statement}
 use Rattle.operands.proofs.value.terms_value.Tie as tie
 

@@ -24,10 +24,10 @@ use Rattle.expansion.specs.Expansion.{orEmpty, callOps, Lent, expanded, answerF
 use Rattle.expansion.specs.declared.ExpansionAnswer.{ExpansionAnswer}
 use Rattle.expansion.specs.declared.ExpansionAnswer.the-variants.{Expanded, GapTooLarge, BadWindow, LastStamp, NotGapApart, PastIndex, OutsideWindow, BufferShort}
 use Rattle.expansion.proofs.Judged.{Accepted, accepted-is, source-fits, dest-fits}
 use Rattle.expansion_cut.specs.Pieces.{piecesOf}
-use Rattle.expansion_cut.specs.Accepted.{Accepts, orZero, cutOf, AcceptedSound, OpsAreCut, CutFits, OpsWritten}
+use Rattle.demand.specs.AcceptedCalls.{Accepts, orZero, cutOf, AcceptedSound, OpsAreCut, CutFits, OpsWritten}
 use Rattle.expansion_cut.proofs.Bytes.{zeros-ok}
 use Rattle.expansion_cut.proofs.RowsCut.{rows-are-cut}
 
 -- Accepted
 

@@ -1,0 +1,136 @@
+-- The operation records of a call are a cut of it, and what is accepted is sound. The rows are cut as `rows-are-cut` says; an empty call
+-- has its one row. Assumes nothing.
+use mathlib.Core.Path.{_≡_, refl, sym, ap, _∙_, subst}
+use mathlib.Core.Logic.{inr}
+use mathlib.Core.Bool.{Bool, true, false, cond}
+use mathlib.Core.List.{List, [], _∷_, map}
+use Prim.Native.Nat.{ℕ, zero, suc, _+_, _*_, _<_}
+use native.Mathlib.Omega.{arith}
+use borrow.Author.Tests.{eq-eqb, ne-eqb, eqb-true, eqb-false}
+use lib.Dec.{eqb}
+use lib.ListN.{length, replicate, length-append}
+use Rattle.copy_row.specs.Calls.{Call, Piece, Op}
+use Rattle.copy_meaning.specs.Steps.{All, Words, PieceOk}
+use Rattle.calls.specs.Cuts.{cutFrom, Cut, Sound, Fits}
+use Rattle.calls.proofs.Cuts.{cut-single}
+use Rattle.window.specs.Window.{Window, windowOf}
+use Rattle.expansion_rows.specs.Rows.{Row, rowsOf}
+use Rattle.expansion_rows.specs.Turns.{inverted, valueAt, turnBytes, rowOps, passAccesses}
+use Rattle.expansion_rows.proofs.RowList.{rows-none}
+use Rattle.expansion_rows.proofs.Lengths.{row-ops-length, held-accesses-length, pass-accesses-length}
+use Rattle.expansion_cut.specs.Pieces.{Bytes, piecesOf}
+use Rattle.expansion_cut.proofs.Bytes.{zeros-ok}
+use Rattle.expansion_cut.proofs.RowsCut.{rows-are-cut}
+use Rattle.expansion.specs.Refusals.{opCount, accessCount}
+use Rattle.expansion.specs.Expansion.{emptyOp, orEmpty, callOps, deferred, callAccesses, Lent}
+use Rattle.expansion.specs.Consequences.{callPieces, cutCall, Accepts}
+use Rattle.expansion.proofs.Judged.{accepted-is, source-fits, dest-fits}
+use Rattle.expansion.proofs.Moved.{some-ops}
+
+-- The two kinds of calls
+
+empty-ops : (c : Call) (bytes : List ℕ) → c .count ≡ 0 → callOps c bytes ≡ emptyOp c ∷ []
+unfolding callOps rowOps
+empty-ops c bytes none = ap (λ (rs : List Row). orEmpty c (rowOps rs bytes)) (rows-none c 1 none)
+
+row-pieces : (rs : List Row) (bytes : List ℕ) → map (λ (o : Op). o .piece) (rowOps rs bytes) ≡ piecesOf rs bytes
+unfolding rowOps piecesOf
+row-pieces [] bytes = refl
+row-pieces (r ∷ rs) bytes =
+    λ i.
+    record { width = r .width; value = valueAt (r .call) (r .width) bytes } ∷ row-pieces rs (turnBytes (r .call) (r .width) bytes) i
+
+some-pieces : (c : Call) (bytes : List ℕ) → 0 < c .count → callPieces c bytes ≡ piecesOf (rowsOf c) bytes
+some-pieces c bytes some = ap (λ (os : List Op). map (λ (o : Op). o .piece) os) (some-ops c bytes some) ∙ row-pieces (rowsOf c) bytes
+
+empty-pieces : (c : Call) (bytes : List ℕ) → c .count ≡ 0 → callPieces c bytes ≡ record { width = 1; value = replicate 8 0 } ∷ []
+empty-pieces c bytes none = ap (λ (os : List Op). map (λ (o : Op). o .piece) os) (empty-ops c bytes none)
+
+-- The cut
+
+pub cut : (c : Call) (bytes : List ℕ) → Bytes bytes → callOps c bytes ≡ cutFrom c 1 (callPieces c bytes)
+cut c bytes b = step (c .count) refl
+  where
+    step : (n : ℕ) → c .count ≡ n → callOps c bytes ≡ cutFrom c 1 (callPieces c bytes)
+    step zero e = empty-ops c bytes e ∙ sym (ap (λ (ps : List Piece). cutFrom c 1 ps) (empty-pieces c bytes e))
+    step (suc n) e =
+        let some : 0 < c .count = omega arith in
+        some-ops c bytes some
+        ∙ rows-are-cut c bytes b some .records
+        ∙ sym (ap (λ (ps : List Piece). cutFrom c 1 ps) (some-pieces c bytes some))
+
+sums : (c : Call) (bytes : List ℕ) → Bytes bytes → Cut (c .count) (callPieces c bytes) × All PieceOk (callPieces c bytes)
+sums c bytes b = step (c .count) refl
+  where
+    step : (n : ℕ) → c .count ≡ n → Cut (c .count) (callPieces c bytes) × All PieceOk (callPieces c bytes)
+    step zero e =
+        let p = sym (empty-pieces c bytes e) in (
+          cut-single (c .count) (callPieces c bytes) e (ap length (empty-pieces c bytes e)),
+          subst (λ (ps : List Piece). All PieceOk ps) p (zeros-ok, tt),
+        )
+    step (suc n) e =
+        let some : 0 < c .count = omega arith in
+        let p = sym (some-pieces c bytes some) in
+        let r = rows-are-cut c bytes b some in
+        (subst (λ (ps : List Piece). Cut (c .count) ps) p (r .cut), subst (λ (ps : List Piece). All PieceOk ps) p (r .pieces))
+
+-- Soundness
+
+sound : (gap : ℕ) (c : Call) (l : Lent) → Words c → Accepts gap c l → Sound gap c
+sound gap c l words taken =
+    let n = length (l .bytes) in
+    let f = accepted-is 65536 gap c n (length (l .stamps)) (length (l .ops)) (length (l .accesses)) (opCount c) (accessCount c) taken .fair in
+    record {
+      words = words;
+      reach =
+          inr (
+            source-fits 65536 gap c n (length (l .stamps)) f (omega arith) (words .src),
+            dest-fits 65536 gap c n (length (l .stamps)) f (omega arith) (words .dst),
+          );
+      gapped = f .apart;
+    }
+
+pub fits : (gap : ℕ) (c : Call) (l : Lent) → Words c → Bytes (l .bytes) → Accepts gap c l → Fits gap (cutCall c (l .bytes))
+fits gap c l words b taken =
+    let s = sums c (l .bytes) b in
+    record { sound = sound gap c l words taken; cut = s .0; pieces = s .1 }
+
+-- Counts
+
+ops-count : (c : Call) (bytes : List ℕ) → length (callOps c bytes) ≡ opCount c
+ops-count c bytes = step (c .count) refl
+  where
+    step : (n : ℕ) → c .count ≡ n → length (callOps c bytes) ≡ opCount c
+    step zero e = ap length (empty-ops c bytes e) ∙ rw (eq-eqb (c .count) 0 e)
+    step (suc n) e =
+        ap length (some-ops c bytes (omega arith)) ∙ row-ops-length (rowsOf c) bytes ∙ rw (ne-eqb (c .count) 0 (λ q. omega arith))
+
+deferred-count : (c : Call) (bytes : List ℕ) → length (deferred c bytes) ≡ cond (eqb (c .kind) 0) (length (rowsOf c)) 0
+deferred-count c bytes = step (eqb (c .kind) 0)
+  where
+    step : (b : Bool) → length (cond b (rowOps (rowsOf c) bytes) []) ≡ cond b (length (rowsOf c)) 0
+    step true = row-ops-length (rowsOf c) bytes
+    step false = refl
+
+accesses-count : (c : Call) (m : Window) → c .kind < 3 → length (callAccesses c m) ≡ accessCount c
+unfolding callAccesses
+accesses-count c m kind =
+    length-append (passAccesses (rowsOf c) m) _
+    ∙ step (eqb (c .kind) 0) (inverted c) (eqb (c .kind) 2) refl refl refl (pass-accesses-length c 1 m)
+    (held-accesses-length (deferred c (m .bytes)) _ ∙ deferred-count c (m .bytes))
+  where
+    step : (x y z : Bool) → eqb (c .kind) 0 ≡ x → inverted c ≡ y → eqb (c .kind) 2 ≡ z → {a b : ℕ}
+        → a ≡ cond y (2 * length (rowsOf c)) (length (rowsOf c)) → b ≡ cond x (length (rowsOf c)) 0
+        → a + b ≡ cond z (length (rowsOf c)) (2 * length (rowsOf c))
+    step true true z ex ey ez ea eb = absurd (omega (arith, eqb-true (c .kind) 0 ex, eqb-true (c .kind) 1 ey))
+    step true false true ex ey ez ea eb = absurd (omega (arith, eqb-true (c .kind) 0 ex, eqb-true (c .kind) 2 ez))
+    step true false false ex ey ez ea eb = omega arith
+    step false true true ex ey ez ea eb = absurd (omega (arith, eqb-true (c .kind) 1 ey, eqb-true (c .kind) 2 ez))
+    step false true false ex ey ez ea eb = omega arith
+    step false false true ex ey ez ea eb = omega arith
+    step false false false ex ey ez ea eb =
+        absurd (omega (arith, eqb-false (c .kind) 0 ex, eqb-false (c .kind) 1 ey, eqb-false (c .kind) 2 ez))
+
+pub counts : (c : Call) (bytes stamps : List ℕ) → c .kind < 3
+    → (length (callOps c bytes) ≡ opCount c) × (length (callAccesses c (windowOf bytes stamps)) ≡ accessCount c)
+counts c bytes stamps kind = (ops-count c bytes, accesses-count c (windowOf bytes stamps) kind)

@@ -1,0 +1,65 @@
+-- `row_text::lines::put_fields` meets its contract. The invariant: storing the fields that are left from `end` on gives all of them
+-- stored. Assumes nothing.
+use Prim.Native.Nat.{ℕ, _+_, _*_, _-_, _≤_}
+use mathlib.Core.Path.{_≡_, refl, sym, ap, _∙_}
+use mathlib.Core.List.{List}
+use native.Mathlib.Omega.{arith}
+use borrow.Author.Needs.{needs}
+use lib.ListN.{length, drop, length-set}
+use Rattle.records.specs.Lists.{store}
+use Rattle.records.proofs.Store.{store-none}
+use Rattle.row_text.specs.Rows.{fieldsText}
+use Rattle.row_text.proofs.Fields.{field-turn, field-end, field-length}
+use Rattle.row_text.proofs.lines.put_fields.Statement.{statement}
+use Rattle.row_text.proofs.lines.put_fields.Tie as tie
+
+abbrev Inv-loop : tie.InvT-loop
+Inv-loop out₀ at numbers i₀ end₀ out i end =
+    (i ≤ length numbers)
+    × (length out ≡ length out₀)
+    × (end ≤ at + 21 * i)
+    × (end + length (fieldsText (drop i numbers)) ≡ at + length (fieldsText numbers))
+    × (store out end (fieldsText (drop i numbers)) ≡ store out₀ at (fieldsText numbers))
+
+abbrev μ-loop : tie.MeasureT-loop
+μ-loop out₀ at numbers i₀ end₀ out i end = length numbers - i
+
+loop-again : tie.Need-loop-again Inv-loop μ-loop
+loop-again c =
+    let turn = c .before .before .before .before .before .before in
+    let numbers = turn .before .before .before .args .numbers .now in
+    let l = turn .loop in
+    let number = c .before .before .put-number in
+    let next = field-turn (l .out) (number .last .0) numbers (l .end) (l .i) (number .result) (omega arith) (number .ensures .0 .0) (number .ensures .1) in (
+      omega arith,
+      field-length (l .out) (number .last .0) _ (l .end) (number .ensures .1) ∙ l .inv .1,
+      omega arith,
+      next .1 ∙ l .inv .3,
+      next .0 ∙ l .inv .4,
+    )
+
+returns : tie.Need-returns Inv-loop μ-loop
+returns c =
+    let l = c .before .loop in
+    let start = c .before .before .before .before .args in
+    let none = field-end (start .numbers .now) (l .i) (c .loop-test .left) in
+    let place : l .end ≡ start .at + length (fieldsText (start .numbers .now)) = omega (arith, ap length none, l .inv .3) in
+    ((place, omega arith), sym (ap (λ (x : List ℕ). store (l .out) (l .end) x) none ∙ store-none (l .out) (l .end)) ∙ l .inv .4)
+
+pub put-fields-spec : {M : Type 1} → statement M
+put-fields-spec =
+    tie.close
+    (tie.spec
+    Inv-loop
+    μ-loop
+    (λ c. (omega arith, refl, omega arith, refl, refl))
+    (λ c. search needs)
+    (λ c. search needs)
+    (λ c. search needs)
+    (λ c. search needs)
+    (λ c κs. simp length-set (omega arith))
+    (λ c. search needs)
+    (λ c. search needs)
+    loop-again
+    (λ c. search needs)
+    returns)

@@ -1,0 +1,42 @@
+-- `row_text::lines::put_number` meets its contract: the digits that were written first are the number's text, and at most 20. Assumes
+-- nothing.
+use Prim.Native.Nat.{ℕ, _+_}
+use mathlib.Core.Path.{ap, _∙_}
+use mathlib.Core.List.{List}
+use native.Mathlib.Omega.{arith}
+use borrow.Author.Needs.{needs}
+use lib.ListN.{length}
+use Rattle.records.specs.Lists.{store}
+use Rattle.row_text.proofs.Digits.{decimal-is, fewest-20}
+use Rattle.row_text.proofs.lines.put_number.Statement.{statement}
+use Rattle.row_text.proofs.lines.put_number.Tie as tie
+
+room : tie.Need-put-requires
+room c κs =
+    let digits = c .before .before .decimal in
+    let most = fewest-20 (digits .result) (c .before .before .before .before .before .args .n) (omega arith) (digits .ensures .1 .0) in
+    let counts = digits .ensures .0 .1 in
+    omega arith
+
+returns : tie.Need-returns
+returns c =
+    let digits = c .before .before .before .before .before .decimal in
+    let start = c .before .before .before .before .before .before .before .before .args in
+    let most = fewest-20 (digits .result) (start .n) (omega arith) (digits .ensures .1 .0) in
+    let counts = digits .ensures .0 .1 in
+    let text = digits .ensures .1 .1 ∙ decimal-is (digits .result) (start .n) (digits .ensures .1 .0) most in
+    let written = c .before .before .put .ensures in (
+      (written .0 ∙ ap (λ (x : List ℕ). start .at + length x) text, omega (arith, written .0)),
+      written .1 ∙ ap (λ (x : List ℕ). store (start .out .now) (start .at) x) text,
+    )
+
+pub put-number-spec : {M : Type 1} → statement M
+put-number-spec =
+    tie.close
+    (tie.spec
+    (λ c κs. search needs)
+    (λ c. search needs)
+    (λ c. search needs)
+    room
+    (λ c. search needs)
+    returns)
