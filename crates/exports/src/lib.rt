@@ -21,8 +21,14 @@ ghost use Rattle.routing.specs.Routing.{routeAnswer, routeAfter, routeNumbers};
 ghost use Rattle.answer.specs.Numbers.{accepted};
 ghost use Rattle.registers.specs.Step.{newState};
 ghost use Rattle.register_numbers.specs.RegisterNumbers.{stateNumbers, flatAnswer, stateAfter, recordsAfter};
-ghost use Rattle.add_pair.specs.Flat.{flatOperand};
-ghost use Rattle.add_pair.specs.Answers.{addPairAnswer, pairNumbersOf, outAfter, addPairNumbers};
+ghost use Rattle.add_pair.specs.Answers.{addPairAnswer, addPairAfter, addPairNumbers};
+ghost use mathlib.Core.List.{[], _∷_};
+ghost use lib.Dec.{eqb};
+ghost use Rattle.reg_access.specs.RegAccess.{built, pushed};
+ghost use Rattle.reg_access_numbers.specs.RegAccessNumbers.{accessAnswer, recordAfter};
+ghost use Rattle.expansion.specs.Expansion.{lent};
+ghost use Rattle.expansion_numbers.specs.ExpansionNumbers.{flatNumbers, slicesAfter};
+ghost use Rattle.expansion_numbers.specs.ExpansionNumbers.{countsAfter as expandedCounts};
 ghost use Rattle.exports.specs.Exports.{routedNumbers, countsAfter};
 
 // a + b modulo p, or 14.
@@ -194,7 +200,72 @@ pub extern "C" fn add_pair(
     out: &mut [u64; 3],
 ) -> Answer
     ensures answer { λ r. ⌜ r ≡ addPairNumbers (addPairAnswer (now (lhs .entry)) (now (rhs .entry)) (now (sum .entry)) (now (conditions .entry)) (now (row .entry))) ⌝ }
-    ensures out { λ r. ⌜ now (out .exit) ≡ outAfter (addPairAnswer (now (lhs .entry)) (now (rhs .entry)) (now (sum .entry)) (now (conditions .entry)) (now (row .entry))) (pairNumbersOf (flatOperand (now (lhs .entry))) (flatOperand (now (rhs .entry))) (flatOperand (now (sum .entry))) (now (conditions .entry)) (now (row .entry))) (now (out .entry)) ⌝ }
+    ensures out { λ r. ⌜ now (out .exit) ≡ addPairAfter (now (lhs .entry)) (now (rhs .entry)) (now (sum .entry)) (now (conditions .entry)) (now (row .entry)) (now (out .entry)) ⌝ }
 {
     add_pair::numbers(add_pair::add_pair(lhs, rhs, sum, conditions, row, out))
+}
+
+// The route of one register access, or 10, 11: 0 for the register table, 1 for the aligned, 2 for the general one. The first 8 numbers of
+// `record` are written for route 0, else all 29.
+#[no_mangle]
+pub extern "C" fn push_reg_access(
+    reg_addr: u64,
+    val0: u32,
+    val1: u32,
+    old0: u32,
+    old1: u32,
+    timestamp: u64,
+    old_timestamp: u64,
+    is_read: u64,
+    record: &mut [u64; 29],
+) -> Answer
+    ensures answer { λ r. ⌜ r ≡ accessAnswer «is_read» (pushed (built «reg_addr» (val0 ∷ val1 ∷ []) (old0 ∷ old1 ∷ []) timestamp «old_timestamp» (eqb «is_read» 1))) ⌝ }
+    ensures record { λ r. ⌜ now («record» .exit) ≡ recordAfter «is_read» (pushed (built «reg_addr» (val0 ∷ val1 ∷ []) (old0 ∷ old1 ∷ []) timestamp «old_timestamp» (eqb «is_read» 1))) (now («record» .entry)) ⌝ }
+{
+    reg_access_numbers::push_reg_access(
+        reg_addr,
+        val0,
+        val1,
+        old0,
+        old1,
+        timestamp,
+        old_timestamp,
+        is_read,
+        record,
+    )
+}
+
+// The expansion of a call over a window, or 10, then 7, 8, 1, 3, 5, 2, 9; the value is the number of operation records, and `counts` has
+// it and the number of access records.
+#[no_mangle]
+pub extern "C" fn collect_copy_ops(
+    kind: u64,
+    timestamp: u64,
+    src: u64,
+    dst: u64,
+    count: u64,
+    gap: u64,
+    bytes: &mut [u8],
+    stamps: &mut [u64],
+    ops: &mut [u64],
+    accesses: &mut [u64],
+    counts: &mut [u64; 2],
+) -> Answer
+    ensures answer { λ r. ⌜ r ≡ flatNumbers kind timestamp src dst count gap (lent (now (bytes .entry)) (now (stamps .entry)) (now (ops .entry)) (now (accesses .entry))) .answer ⌝ }
+    ensures slices { λ _. ⌜ lent (now (bytes .exit)) (now (stamps .exit)) (now (ops .exit)) (now (accesses .exit)) ≡ slicesAfter kind timestamp src dst count gap (lent (now (bytes .entry)) (now (stamps .entry)) (now (ops .entry)) (now (accesses .entry))) ⌝ }
+    ensures counts { λ _. ⌜ now (counts .exit) ≡ expandedCounts (flatNumbers kind timestamp src dst count gap (lent (now (bytes .entry)) (now (stamps .entry)) (now (ops .entry)) (now (accesses .entry)))) (now (counts .entry)) ⌝ }
+{
+    expansion_numbers::collect_copy_ops(
+        kind,
+        timestamp,
+        src,
+        dst,
+        count,
+        gap,
+        bytes,
+        stamps,
+        ops,
+        accesses,
+        counts,
+    )
 }

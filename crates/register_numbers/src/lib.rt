@@ -66,7 +66,7 @@ pub fn collect_copy_register_ops(
 }
 
 // The kind of a number.
-fn kind_of(kind: u64) -> Functionality
+pub fn kind_of(kind: u64) -> Functionality
     ensures { λ r. ⌜ r ≡ kindOf kind ⌝ }
 {
     if kind == 0 {
