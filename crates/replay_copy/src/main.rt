@@ -43,7 +43,51 @@ fn ask_residue(numbers: &[u64], at: usize) -> usize
     row_end + 1
 }
 
-// One question: 0 generate_copy_trace, 1 copy_residue.
+fn pair(lhs: &[u64], rhs: &[u64], sum: &[u64], conditions: &[u64], row: &[u64], out: &[u64]) {
+    let mut found = [0u64; 3];
+    replay::load(out, &mut found);
+    replay::print_answer(exports::add_pair(lhs, rhs, sum, conditions, row, &mut found));
+    replay::print_list(&found);
+}
+
+// add_pair: three operands, conditions, the row, three numbers.
+fn ask_pair(numbers: &[u64], at: usize) -> usize
+    requires { ⌜ at < length (now numbers) ⌝ }
+    ensures { λ r. ⌜ (at < r) × (r ≤ length (now (numbers .entry))) ⌝ }
+{
+    let lhs_end = replay::after_list(numbers, at);
+    if numbers.len() <= lhs_end {
+        return numbers.len();
+    }
+    let rhs_end = replay::after_list(numbers, lhs_end);
+    if numbers.len() <= rhs_end {
+        return numbers.len();
+    }
+    let sum_end = replay::after_list(numbers, rhs_end);
+    if numbers.len() <= sum_end {
+        return numbers.len();
+    }
+    let conditions_end = replay::after_list(numbers, sum_end);
+    if numbers.len() <= conditions_end {
+        return numbers.len();
+    }
+    let row_end = replay::after_list(numbers, conditions_end);
+    if numbers.len() <= row_end {
+        return numbers.len();
+    }
+    let out_end = replay::after_list(numbers, row_end);
+    pair(
+        &numbers[at + 1..lhs_end],
+        &numbers[lhs_end + 1..rhs_end],
+        &numbers[rhs_end + 1..sum_end],
+        &numbers[sum_end + 1..conditions_end],
+        &numbers[conditions_end + 1..row_end],
+        &numbers[row_end + 1..out_end],
+    );
+    out_end
+}
+
+// One question: 0 generate_copy_trace, 1 copy_residue, 2 add_pair.
 fn ask(numbers: &[u64], at: usize) -> usize
     requires { ⌜ at < length (now numbers) ⌝ }
     ensures { λ r. ⌜ (at < r) × (r ≤ length (now (numbers .entry))) ⌝ }
@@ -55,7 +99,10 @@ fn ask(numbers: &[u64], at: usize) -> usize
     if function == 0 {
         return ask_trace(numbers, at + 1);
     }
-    ask_residue(numbers, at + 1)
+    if function == 1 {
+        return ask_residue(numbers, at + 1);
+    }
+    ask_pair(numbers, at + 1)
 }
 
 fn ask_all(numbers: &[u64]) {
