@@ -3,14 +3,36 @@
 // oracle's answers.
 ghost use lib.ListN.{length};
 ghost use Prim.Native.Nat.{_≤_, _<_};
-ghost use mathlib.Core.Path.{_≡_};
 
-fn table_of(function: u64, records: &[u64], table: &mut [u64]) {
-    match function {
-        0 => replay::print_answer(exports::generate_memw_trace(records, table)),
-        1 => replay::print_answer(exports::generate_memw_aligned_trace(records, table)),
-        _ => replay::print_answer(exports::generate_memw_register_trace(records, table)),
-    }
+// Arrays, each with its length.
+fn print_counts(counts: &[u64; 3]) {
+    replay::print_list(counts);
+}
+
+fn print_access(access: &[u64; 29]) {
+    replay::print_list(access);
+}
+
+fn print_state(state: &[u64; 68]) {
+    replay::print_list(state);
+}
+
+fn print_records(records: &[u64; 116]) {
+    replay::print_list(records);
+}
+
+fn general_table(records: &[u64], table: &mut [u64]) {
+    replay::print_answer(exports::generate_memw_trace(records, table));
+    replay::print_list(table);
+}
+
+fn aligned_table(records: &[u64], table: &mut [u64]) {
+    replay::print_answer(exports::generate_memw_aligned_trace(records, table));
+    replay::print_list(table);
+}
+
+fn register_table(records: &[u64], table: &mut [u64]) {
+    replay::print_answer(exports::generate_memw_register_trace(records, table));
     replay::print_list(table);
 }
 
@@ -26,7 +48,15 @@ fn ask_table(function: u64, numbers: &[u64], at: usize) -> usize
     let table_end = replay::after_list(numbers, records_end);
     let mut table = [0u64; 1024];
     let n = replay::load(&numbers[records_end + 1..table_end], &mut table);
-    table_of(function, &numbers[at + 1..records_end], &mut table[0..n]);
+    if function == 0 {
+        general_table(&numbers[at + 1..records_end], &mut table[0..n]);
+        return table_end;
+    }
+    if function == 1 {
+        aligned_table(&numbers[at + 1..records_end], &mut table[0..n]);
+        return table_end;
+    }
+    register_table(&numbers[at + 1..records_end], &mut table[0..n]);
     table_end
 }
 
@@ -64,7 +94,7 @@ fn route(
     replay::print_list(register);
     replay::print_list(aligned);
     replay::print_list(general);
-    replay::print_list(&found);
+    print_counts(&found);
 }
 
 // The three lists and the counts of route_accesses, in buffers.
@@ -126,9 +156,10 @@ fn word(x: u64) -> u32 {
     (x % 4294967296) as u32
 }
 
-fn push(inputs: &[u64], before: &[u64])
-    requires { ⌜ 8 ≡ length (now inputs) ⌝ }
-{
+fn push(inputs: &[u64], before: &[u64]) {
+    if inputs.len() != 8 {
+        return;
+    }
     let mut access = [0u64; 29];
     replay::load(before, &mut access);
     let answer = exports::push_reg_access(
@@ -143,7 +174,7 @@ fn push(inputs: &[u64], before: &[u64])
         &mut access,
     );
     replay::print_answer(answer);
-    replay::print_list(&access);
+    print_access(&access);
 }
 
 // push_reg_access: eight numbers, the record.
@@ -163,7 +194,7 @@ fn start(entry_point: u64, stack_top: u64, before: &[u64]) {
     let mut state = [0u64; 68];
     replay::load(before, &mut state);
     replay::print_answer(exports::new_register_state(entry_point, stack_top, &mut state));
-    replay::print_list(&state);
+    print_state(&state);
 }
 
 // new_register_state: the entry point, the stack top, the state.
@@ -179,9 +210,10 @@ fn ask_start(numbers: &[u64], at: usize) -> usize
     state_end
 }
 
-fn step(call: &[u64], before: &[u64], records_before: &[u64])
-    requires { ⌜ 5 ≡ length (now call) ⌝ }
-{
+fn step(call: &[u64], before: &[u64], records_before: &[u64]) {
+    if call.len() != 5 {
+        return;
+    }
     let mut state = [0u64; 68];
     replay::load(before, &mut state);
     let mut records = [0u64; 116];
@@ -196,8 +228,8 @@ fn step(call: &[u64], before: &[u64], records_before: &[u64])
         &mut records,
     );
     replay::print_answer(answer);
-    replay::print_list(&state);
-    replay::print_list(&records);
+    print_state(&state);
+    print_records(&records);
 }
 
 // collect_copy_register_ops: the call, the state, the records.

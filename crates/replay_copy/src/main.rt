@@ -43,11 +43,15 @@ fn ask_residue(numbers: &[u64], at: usize) -> usize
     row_end + 1
 }
 
+fn print_pair(found: &[u64; 3]) {
+    replay::print_list(found);
+}
+
 fn pair(lhs: &[u64], rhs: &[u64], sum: &[u64], conditions: &[u64], row: &[u64], out: &[u64]) {
     let mut found = [0u64; 3];
     replay::load(out, &mut found);
     replay::print_answer(exports::add_pair(lhs, rhs, sum, conditions, row, &mut found));
-    replay::print_list(&found);
+    print_pair(&found);
 }
 
 // add_pair: three operands, conditions, the row, three numbers.
