@@ -4,6 +4,7 @@ use Rattle.field.specs.Field.{mulP}
 use Rattle.records.specs.RowCount.{rowCount, doubled}
 use Rattle.copy_residues.proofs.Examples.{residue-examples}
 use Rattle.memw_rows.proofs.Examples.{carry-examples}
+use Rattle.classify.proofs.Examples.{route-examples}
 use Rattle.examples.specs.Examples.{StarredExamples}
 
 pub starred-examples : StarredExamples
@@ -16,4 +17,5 @@ starred-examples =
       word-squared = refl;
       residues = residue-examples;
       carries = carry-examples;
+      routes = route-examples;
     }

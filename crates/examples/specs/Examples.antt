@@ -6,6 +6,7 @@ use Rattle.field.specs.Field.{p, mulP}
 use Rattle.records.specs.RowCount.{rowCount}
 use Rattle.copy_residues.specs.Examples.{ResidueExamples}
 use Rattle.memw_rows.specs.CarryExamples.{CarryExamples}
+use Rattle.classify.specs.RouteExamples.{RouteExamples}
 
 pub record StarredExamples : Type 0 where
   -- "0 records: 4 rows; 5: 8"
@@ -19,3 +20,5 @@ pub record StarredExamples : Type 0 where
   pub residues : ResidueExamples
   -- CARRY at the top of the low address word
   pub carries : CarryExamples
+  -- routes by stamps
+  pub routes : RouteExamples
