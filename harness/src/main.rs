@@ -2,6 +2,7 @@
 
 mod bench;
 mod compare;
+mod examples;
 mod exported;
 mod functions;
 mod generate;
@@ -25,6 +26,7 @@ harness selftest SEED COUNT           hold the oracle against itself
 harness callcheck                     document 01's program, by the oracle
 harness compare SEED SECONDS [KIND..] hold the proved code against the oracle
 harness bench [KIND..]                time ratios of the proved code to Rust
+harness examples                      compile and run the worked examples in C and Rust
 harness replay DIR SEED               write the files of the replay programs in DIR";
 
 fn main() -> ExitCode {
@@ -36,6 +38,7 @@ fn main() -> ExitCode {
         ["selftest", seed, count] => run_selftest(seed, count),
         ["callcheck"] => callcheck(),
         ["bench", ref kinds @ ..] => bench::run(kinds),
+        ["examples"] => examples::run(),
         ["replay", crates, seed] => replay(crates, seed),
         ["compare", seed, seconds, ref kinds @ ..] => compare(seed, seconds, kinds),
         _ => Err(USAGE.into()),
