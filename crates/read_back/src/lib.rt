@@ -2,8 +2,12 @@
 // record for each live row and five numbers for each call". Assumes nothing.
 pub mod rows;
 
+use answer::Answer;
+use answer::accept;
+use answer::refuse;
 ghost use mathlib.Core.Path.{_≡_};
 ghost use lib.ListN.{length};
+ghost use Rattle.read_back.specs.Counts.{countsAfter};
 ghost use Rattle.read_back.specs.ReadBack.{readBackAnswer, readBackNumbers, opsAfter, callsAfter};
 
 pub enum ReadBackAnswer {
@@ -48,5 +52,31 @@ pub fn read_back(gap: u64, rows: &[u64], ops: &mut [u64], calls: &mut [u64]) -> 
         ReadBackAnswer::LinkBroken { row: _ } => answer,
         ReadBackAnswer::NotEnded { rows: _ } => answer,
         ReadBackAnswer::BufferShort => answer,
+    }
+}
+
+// Document 01's number, place and value of an answer: the value is the number of operation records, or the residue's index for 16.
+// `counts` gets the numbers of operation records and calls; a refusal writes nothing.
+pub fn read_back_numbers(a: ReadBackAnswer, counts: &mut [u64; 2]) -> Answer
+    ensures answer { λ r. ⌜ r ≡ readBackNumbers a .answer ⌝ }
+    ensures counts { λ r. ⌜ now (counts .exit) ≡ countsAfter (readBackNumbers a) (now (counts .entry)) ⌝ }
+{
+    match a {
+        ReadBackAnswer::Read { ops, calls } => {
+            *counts = [ops, calls];
+            accept(ops)
+        }
+        ReadBackAnswer::GapTooLarge => refuse(7, 0),
+        ReadBackAnswer::NotRows => refuse(13, 0),
+        ReadBackAnswer::BadElement { row } => refuse(14, row),
+        ReadBackAnswer::BadRange { row } => refuse(15, row),
+        ReadBackAnswer::BadResidue { row, index } => Answer {
+            number: 16,
+            place: row,
+            value: index,
+        },
+        ReadBackAnswer::LinkBroken { row } => refuse(17, row),
+        ReadBackAnswer::NotEnded { rows } => refuse(18, rows),
+        ReadBackAnswer::BufferShort => refuse(9, 0),
     }
 }
