@@ -9,7 +9,7 @@ struct Answer {
     value: u64,
 }
 
-/// As the archive has them: a slice is a pointer and a length, an array a pointer.
+// As the archive has them: a slice is a pointer and a length, an array a pointer.
 unsafe extern "C" {
     fn collect_copy_ops(
         kind: u64,
