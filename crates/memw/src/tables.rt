@@ -66,7 +66,8 @@ pub fn good_record(t: AccessTable, op: &[u64]) -> bool
     }
 }
 
-// Writes the row of a whole record.
+// Writes the row of a whole record. The row is lent on by numbers that stand here, so that the compiler writes the cells where they
+// belong and not into an array first.
 pub fn write_row(t: AccessTable, row: &mut [u64], op: &[u64])
     requires { ⌜ (length (now row) ≡ rowWidth t) × (length (now op) ≡ recordWidth t) ⌝ }
     ensures { λ _. ⌜ now (row .exit) ≡ recordRow t (now (op .entry)) ⌝ }
@@ -74,15 +75,15 @@ pub fn write_row(t: AccessTable, row: &mut [u64], op: &[u64])
     match t {
         AccessTable::General => {
             let cells = memw_cells(operation(op));
-            put(row, &cells);
+            put(&mut row[0..49], &cells);
         }
         AccessTable::Aligned => {
             let cells = aligned_cells(operation(op));
-            put(row, &cells);
+            put(&mut row[0..29], &cells);
         }
         AccessTable::Register => {
             let cells = register_cells(reg_row(op));
-            put(row, &cells);
+            put(&mut row[0..10], &cells);
         }
     }
 }

@@ -1,7 +1,12 @@
 -- `memw::tables::write_row` meets its contract: in each case, what is put into the row are the cells of the record. Assumes nothing.
-use mathlib.Core.Path.{sym, ap, _∙_}
+use mathlib.Core.Path.{_≡_, sym, ap, _∙_}
+use mathlib.Core.List.{List, _++_, append-nil}
+use Prim.Native.Nat.{ℕ}
+use native.Mathlib.Omega.{arith}
 use borrow.Author.Needs.{needs}
-use lib.ListN.{length}
+use denote.Ref.{now}
+use lib.ListN.{length, take, drop, drop-of-length-le}
+use lib.Seq.{length-take-le}
 use Rattle.memw_rows.specs.Rows.{memwRow, alignedRow, registerRow}
 use Rattle.memw_rows.proofs.Wide.{memw-wide, aligned-wide, register-wide}
 use Rattle.memw.specs.Tables.{recordWidth, rowWidth}
@@ -18,42 +23,81 @@ operation-requires-2 c κs = c .before .before .before .before .pre .1 ∙ ap re
 reg-row-requires : tie.Need-reg-row-requires
 reg-row-requires c κs = c .before .before .before .before .pre .1 ∙ ap recordWidth (c .enum-told3 .given .1)
 
--- the row is as wide as the cells
+-- the part that is lent on is the whole row, and what comes back in its place is the row
+part-wide : (row : List ℕ) (n : ℕ) → length row ≡ n → length (take n row) ≡ n
+part-wide row n e = length-take-le n row (omega arith)
+
+whole : (row cells : List ℕ) (n : ℕ) → length row ≡ n → cells ++ drop n row ≡ cells
+whole row cells n e = ap (λ (r : List ℕ). cells ++ r) (drop-of-length-le row {i = n} (omega arith)) ∙ append-nil cells
+
+part-put-end : tie.Need-part-put-end
+part-put-end c =
+    let told = c .before .before in
+    let start = told .before .before .before .before in
+    let wide = start .pre .0 ∙ ap rowWidth (told .enum-told .given .1) in
+    omega arith
+
 put-requires : tie.Need-put-requires
 put-requires c κs =
     let told = c .before .before .before .before in
-    told .before .before .before .before .pre .0 ∙ ap rowWidth (told .enum-told .given .1)
-    ∙ sym (ap length (c .before .before .memw-cells .ensures) ∙ memw-wide _)
+    let start = told .before .before .before .before in
+    let wide = start .pre .0 ∙ ap rowWidth (told .enum-told .given .1) in
+    part-wide (now (start .args .row)) 49 wide ∙ sym (ap length (c .before .before .memw-cells .ensures) ∙ memw-wide _)
+
+part-put-end-2 : tie.Need-part-put-end-2
+part-put-end-2 c =
+    let told = c .before .before in
+    let start = told .before .before .before .before in
+    let wide = start .pre .0 ∙ ap rowWidth (told .enum-told2 .given .1) in
+    omega arith
 
 put-requires-2 : tie.Need-put-requires-2
 put-requires-2 c κs =
     let told = c .before .before .before .before in
-    told .before .before .before .before .pre .0 ∙ ap rowWidth (told .enum-told2 .given .1)
-    ∙ sym (ap length (c .before .before .aligned-cells .ensures) ∙ aligned-wide _)
+    let start = told .before .before .before .before in
+    let wide = start .pre .0 ∙ ap rowWidth (told .enum-told2 .given .1) in
+    part-wide (now (start .args .row)) 29 wide ∙ sym (ap length (c .before .before .aligned-cells .ensures) ∙ aligned-wide _)
+
+part-put-end-3 : tie.Need-part-put-end-3
+part-put-end-3 c =
+    let told = c .before .before in
+    let start = told .before .before .before .before in
+    let wide = start .pre .0 ∙ ap rowWidth (told .enum-told3 .given .1) in
+    omega arith
 
 put-requires-3 : tie.Need-put-requires-3
 put-requires-3 c κs =
     let told = c .before .before .before .before in
-    told .before .before .before .before .pre .0 ∙ ap rowWidth (told .enum-told3 .given .1)
-    ∙ sym (ap length (c .before .before .register-cells .ensures) ∙ register-wide _)
+    let start = told .before .before .before .before in
+    let wide = start .pre .0 ∙ ap rowWidth (told .enum-told3 .given .1) in
+    part-wide (now (start .args .row)) 10 wide ∙ sym (ap length (c .before .before .register-cells .ensures) ∙ register-wide _)
 
 returns : tie.Need-returns
 returns c =
     let made = c .before .before .before .before .before in
-    rw (made .before .before .enum-told .given .1)
-    (c .before .before .put .ensures ∙ made .memw-cells .ensures ∙ ap memwRow (made .before .operation .ensures))
+    let told = made .before .before in
+    let start = told .before .before .before .before in
+    let wide = start .pre .0 ∙ ap rowWidth (told .enum-told .given .1) in
+    rw (told .enum-told .given .1)
+    (whole (now (start .args .row)) _ 49 wide ∙ c .before .before .put .ensures ∙ made .memw-cells .ensures ∙ ap memwRow (made .before .operation .ensures))
 
 returns-2 : tie.Need-returns-2
 returns-2 c =
     let made = c .before .before .before .before .before in
-    rw (made .before .before .enum-told2 .given .1)
-    (c .before .before .put2 .ensures ∙ made .aligned-cells .ensures ∙ ap alignedRow (made .before .operation2 .ensures))
+    let told = made .before .before in
+    let start = told .before .before .before .before in
+    let wide = start .pre .0 ∙ ap rowWidth (told .enum-told2 .given .1) in
+    rw (told .enum-told2 .given .1)
+    (whole (now (start .args .row)) _ 29 wide ∙ c .before .before .put2 .ensures ∙ made .aligned-cells .ensures ∙ ap alignedRow (made .before .operation2 .ensures))
 
 returns-3 : tie.Need-returns-3
 returns-3 c =
     let made = c .before .before .before .before .before in
-    rw (made .before .before .enum-told3 .given .1)
-    (c .before .before .put3 .ensures ∙ made .register-cells .ensures ∙ ap registerRow (made .before .reg-row .ensures))
+    let told = made .before .before in
+    let start = told .before .before .before .before in
+    let wide = start .pre .0 ∙ ap rowWidth (told .enum-told3 .given .1) in
+    rw (told .enum-told3 .given .1)
+    (whole (now (start .args .row)) _ 10 wide ∙ c .before .before .put3 .ensures ∙ made .register-cells .ensures ∙ ap registerRow (made .before .reg-row .ensures))
 
 pub write-row-spec : {M : Type 1} → statement M
 write-row-spec =
@@ -63,15 +107,24 @@ write-row-spec =
     operation-requires
     (λ c κs. search needs)
     (λ c. search needs)
+    (λ c. search needs)
+    part-put-end
+    (λ c. search needs)
     put-requires
     (λ c. search needs)
     operation-requires-2
     (λ c κs. search needs)
     (λ c. search needs)
+    (λ c. search needs)
+    part-put-end-2
+    (λ c. search needs)
     put-requires-2
     (λ c. search needs)
     reg-row-requires
     (λ c κs. search needs)
+    (λ c. search needs)
+    (λ c. search needs)
+    part-put-end-3
     (λ c. search needs)
     put-requires-3
     (λ c. search needs)
