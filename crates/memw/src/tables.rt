@@ -66,8 +66,9 @@ pub fn good_record(t: AccessTable, op: &[u64]) -> bool
     }
 }
 
-// Writes the row of a whole record. The row is lent on by numbers that stand here, so that the compiler writes the cells where they
-// belong and not into an array first.
+// Writes the row of a whole record. That of the general table is lent on by numbers that stand here, so that the compiler writes the
+// cells where they belong and not into an array first. Were the other two lent on so too, it would make one of the ends of all three, at
+// the general table's cost.
 pub fn write_row(t: AccessTable, row: &mut [u64], op: &[u64])
     requires { ⌜ (length (now row) ≡ rowWidth t) × (length (now op) ≡ recordWidth t) ⌝ }
     ensures { λ _. ⌜ now (row .exit) ≡ recordRow t (now (op .entry)) ⌝ }
@@ -79,11 +80,11 @@ pub fn write_row(t: AccessTable, row: &mut [u64], op: &[u64])
         }
         AccessTable::Aligned => {
             let cells = aligned_cells(operation(op));
-            put(&mut row[0..29], &cells);
+            put(row, &cells);
         }
         AccessTable::Register => {
             let cells = register_cells(reg_row(op));
-            put(&mut row[0..10], &cells);
+            put(row, &cells);
         }
     }
 }

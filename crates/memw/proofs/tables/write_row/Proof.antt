@@ -23,7 +23,7 @@ operation-requires-2 c κs = c .before .before .before .before .pre .1 ∙ ap re
 reg-row-requires : tie.Need-reg-row-requires
 reg-row-requires c κs = c .before .before .before .before .pre .1 ∙ ap recordWidth (c .enum-told3 .given .1)
 
--- the part that is lent on is the whole row, and what comes back in its place is the row
+-- the row is as wide as the cells; the general table lends on a part that is the whole row, and what comes back in its place is the row
 part-wide : (row : List ℕ) (n : ℕ) → length row ≡ n → length (take n row) ≡ n
 part-wide row n e = length-take-le n row (omega arith)
 
@@ -44,33 +44,17 @@ put-requires c κs =
     let wide = start .pre .0 ∙ ap rowWidth (told .enum-told .given .1) in
     part-wide (now (start .args .row)) 49 wide ∙ sym (ap length (c .before .before .memw-cells .ensures) ∙ memw-wide _)
 
-part-put-end-2 : tie.Need-part-put-end-2
-part-put-end-2 c =
-    let told = c .before .before in
-    let start = told .before .before .before .before in
-    let wide = start .pre .0 ∙ ap rowWidth (told .enum-told2 .given .1) in
-    omega arith
-
 put-requires-2 : tie.Need-put-requires-2
 put-requires-2 c κs =
     let told = c .before .before .before .before in
-    let start = told .before .before .before .before in
-    let wide = start .pre .0 ∙ ap rowWidth (told .enum-told2 .given .1) in
-    part-wide (now (start .args .row)) 29 wide ∙ sym (ap length (c .before .before .aligned-cells .ensures) ∙ aligned-wide _)
-
-part-put-end-3 : tie.Need-part-put-end-3
-part-put-end-3 c =
-    let told = c .before .before in
-    let start = told .before .before .before .before in
-    let wide = start .pre .0 ∙ ap rowWidth (told .enum-told3 .given .1) in
-    omega arith
+    told .before .before .before .before .pre .0 ∙ ap rowWidth (told .enum-told2 .given .1)
+    ∙ sym (ap length (c .before .before .aligned-cells .ensures) ∙ aligned-wide _)
 
 put-requires-3 : tie.Need-put-requires-3
 put-requires-3 c κs =
     let told = c .before .before .before .before in
-    let start = told .before .before .before .before in
-    let wide = start .pre .0 ∙ ap rowWidth (told .enum-told3 .given .1) in
-    part-wide (now (start .args .row)) 10 wide ∙ sym (ap length (c .before .before .register-cells .ensures) ∙ register-wide _)
+    told .before .before .before .before .pre .0 ∙ ap rowWidth (told .enum-told3 .given .1)
+    ∙ sym (ap length (c .before .before .register-cells .ensures) ∙ register-wide _)
 
 returns : tie.Need-returns
 returns c =
@@ -84,20 +68,14 @@ returns c =
 returns-2 : tie.Need-returns-2
 returns-2 c =
     let made = c .before .before .before .before .before in
-    let told = made .before .before in
-    let start = told .before .before .before .before in
-    let wide = start .pre .0 ∙ ap rowWidth (told .enum-told2 .given .1) in
-    rw (told .enum-told2 .given .1)
-    (whole (now (start .args .row)) _ 29 wide ∙ c .before .before .put2 .ensures ∙ made .aligned-cells .ensures ∙ ap alignedRow (made .before .operation2 .ensures))
+    rw (made .before .before .enum-told2 .given .1)
+    (c .before .before .put2 .ensures ∙ made .aligned-cells .ensures ∙ ap alignedRow (made .before .operation2 .ensures))
 
 returns-3 : tie.Need-returns-3
 returns-3 c =
     let made = c .before .before .before .before .before in
-    let told = made .before .before in
-    let start = told .before .before .before .before in
-    let wide = start .pre .0 ∙ ap rowWidth (told .enum-told3 .given .1) in
-    rw (told .enum-told3 .given .1)
-    (whole (now (start .args .row)) _ 10 wide ∙ c .before .before .put3 .ensures ∙ made .register-cells .ensures ∙ ap registerRow (made .before .reg-row .ensures))
+    rw (made .before .before .enum-told3 .given .1)
+    (c .before .before .put3 .ensures ∙ made .register-cells .ensures ∙ ap registerRow (made .before .reg-row .ensures))
 
 pub write-row-spec : {M : Type 1} → statement M
 write-row-spec =
@@ -115,16 +93,10 @@ write-row-spec =
     operation-requires-2
     (λ c κs. search needs)
     (λ c. search needs)
-    (λ c. search needs)
-    part-put-end-2
-    (λ c. search needs)
     put-requires-2
     (λ c. search needs)
     reg-row-requires
     (λ c κs. search needs)
-    (λ c. search needs)
-    (λ c. search needs)
-    part-put-end-3
     (λ c. search needs)
     put-requires-3
     (λ c. search needs)
