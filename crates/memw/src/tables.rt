@@ -66,9 +66,9 @@ pub fn good_record(t: AccessTable, op: &[u64]) -> bool
     }
 }
 
-// Writes the row of a whole record. That of the general table is lent on by numbers that stand here, so that the compiler writes the
-// cells where they belong and not into an array first. Were the other two lent on so too, it would make one of the ends of all three, at
-// the general table's cost.
+// Writes the row of a whole record. The general table's row is lent on by numbers that stand here: the compiler then knows how many cells
+// there are, and writes them straight into the row. The other rows are lent as they come, or it would join the last writes of all three
+// cases, which costs the general table time.
 pub fn write_row(t: AccessTable, row: &mut [u64], op: &[u64])
     requires { ⌜ (length (now row) ≡ rowWidth t) × (length (now op) ≡ recordWidth t) ⌝ }
     ensures { λ _. ⌜ now (row .exit) ≡ recordRow t (now (op .entry)) ⌝ }
