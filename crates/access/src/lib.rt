@@ -1,10 +1,8 @@
 // The access record: which runs of numbers are one. Assumes nothing.
 ghost use mathlib.Core.Path.{_≡_};
-ghost use Prim.Native.Nat.{_-_, _^_};
-ghost use lib.ListN.{length, replicate};
-ghost use Rattle.records.specs.Records.{within};
 ghost use Rattle.access.specs.Access.{accessRecord, isWidth, goodAccess};
 ghost use Rattle.access.specs.RegisterAccess.{registerAccess};
+use records::lists::within_limits;
 
 // Where the numbers stand in a record, by the names of `MemwOperation`; VALUE, OLD and OLD_TIMESTAMP are the first of eight.
 pub const IS_REGISTER: usize = 0;
@@ -26,26 +24,48 @@ pub const OLD_TIMESTAMP: usize = 21;
 // Numbers in a record.
 pub const ACCESS_WIDTH: usize = 29;
 
+// The largest value of each number of a record.
+const ACCESS_LIMITS: [u64; 29] = [
+    1,
+    0xffff_ffff_ffff_ffff,
+    0xffff_ffff,
+    0xffff_ffff,
+    0xffff_ffff,
+    0xffff_ffff,
+    0xffff_ffff,
+    0xffff_ffff,
+    0xffff_ffff,
+    0xffff_ffff,
+    0xffff_ffff_ffff_ffff,
+    8,
+    1,
+    0xffff_ffff,
+    0xffff_ffff,
+    0xffff_ffff,
+    0xffff_ffff,
+    0xffff_ffff,
+    0xffff_ffff,
+    0xffff_ffff,
+    0xffff_ffff,
+    0xffff_ffff_ffff_ffff,
+    0xffff_ffff_ffff_ffff,
+    0xffff_ffff_ffff_ffff,
+    0xffff_ffff_ffff_ffff,
+    0xffff_ffff_ffff_ffff,
+    0xffff_ffff_ffff_ffff,
+    0xffff_ffff_ffff_ffff,
+    0xffff_ffff_ffff_ffff,
+];
+
 // Whether `op` is an access record: whole, and each field among its values.
 pub fn good_access(op: &[u64]) -> bool
     ensures { λ r. ⌜ r ≡ goodAccess (now (op .entry)) ⌝ }
 {
-    if op.len() != ACCESS_WIDTH {
+    let limits = ACCESS_LIMITS;
+    if !within_limits(op, &limits) {
         return false;
     }
-    if 1 < op[IS_REGISTER] {
-        return false;
-    }
-    if 1 < op[IS_READ] {
-        return false;
-    }
-    if !is_width(op[WIDTH]) {
-        return false;
-    }
-    if !are_words(&op[VALUE..VALUE + 8]) {
-        return false;
-    }
-    are_words(&op[OLD..OLD + 8])
+    is_width(op[WIDTH])
 }
 
 // The record of an access of a register: `address` is twice its number, and `value` and `old` are its words.
@@ -97,18 +117,4 @@ fn is_width(width: u64) -> bool
     ensures { λ r. ⌜ r ≡ isWidth width ⌝ }
 {
     (width == 1) | ((width == 2) | ((width == 4) | (width == 8)))
-}
-
-// Whether eight numbers are words: what is above 2^32 in each adds up to nothing, which asks no branch for each.
-fn are_words(part: &[u64]) -> bool
-    requires { ⌜ length (now part) ≡ 8 ⌝ }
-    ensures { λ r. ⌜ r ≡ within (replicate 8 (2 ^ 32 - 1)) (now (part .entry)) ⌝ }
-{
-    let mut high: u64 = 0;
-    let mut i = 0;
-    while i < 8 {
-        high += part[i] >> 32;
-        i += 1;
-    }
-    high == 0
 }

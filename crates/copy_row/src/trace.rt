@@ -38,15 +38,22 @@ const OP_LIMITS: [u64; 16] = [
     255,
 ];
 
+// Whether an operation record is whole and each field is among its values.
+fn good_op(op: &[u64]) -> bool
+    ensures { λ r. ⌜ r ≡ goodOp (now (op .entry)) ⌝ }
+{
+    let limits = OP_LIMITS;
+    within_limits(op, &limits)
+}
+
 // The lowest of the n records that is not good, or n.
 fn first_bad(ops: &[u64], n: usize) -> usize
     requires { ⌜ n ≡ recordCount OP-WIDTH (now ops) ⌝ }
     ensures { λ r. ⌜ r ≡ firstBad OP-WIDTH goodOp (now (ops .entry)) ⌝ }
 {
-    let limits = OP_LIMITS;
     let mut k = 0;
     while k < n {
-        if !within_limits(record_at(ops, OP_WIDTH, k), &limits) {
+        if !good_op(record_at(ops, OP_WIDTH, k)) {
             return k;
         }
         k += 1;

@@ -6,7 +6,7 @@ use Prim.Native.Nat.{ℕ, zero, suc, _+_, _-_, _*_, _^_, _≤_, _<_}
 use native.Mathlib.Omega.{arith}
 use borrow.Author.Tests.{lt-ltb, ltb-true, ltb-false, leb-false, eq-eqb, ne-eqb, eqb-true, eqb-false, not-false}
 use lib.Dec.{eqb, ltb}
-use Rattle.access.proofs.Tests.{same-test}
+use Rattle.records.proofs.Tests.{same-test}
 use Rattle.copy_row.specs.Calls.{Call}
 use Rattle.copy_row.specs.Trace.{OP-WIDTH}
 use Rattle.access.specs.Access.{ACCESS-WIDTH}

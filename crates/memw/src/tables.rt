@@ -66,7 +66,9 @@ pub fn good_record(t: AccessTable, op: &[u64]) -> bool
     }
 }
 
-// Writes the row of a whole record.
+// Writes the row of a whole record. The general table's row is lent on by numbers that stand here: the compiler then knows how many cells
+// there are, and writes them straight into the row. The other rows are lent as they come, or it would join the last writes of all three
+// cases, which costs the general table time.
 pub fn write_row(t: AccessTable, row: &mut [u64], op: &[u64])
     requires { ⌜ (length (now row) ≡ rowWidth t) × (length (now op) ≡ recordWidth t) ⌝ }
     ensures { λ _. ⌜ now (row .exit) ≡ recordRow t (now (op .entry)) ⌝ }
@@ -74,7 +76,7 @@ pub fn write_row(t: AccessTable, row: &mut [u64], op: &[u64])
     match t {
         AccessTable::General => {
             let cells = memw_cells(operation(op));
-            put(row, &cells);
+            put(&mut row[0..49], &cells);
         }
         AccessTable::Aligned => {
             let cells = aligned_cells(operation(op));

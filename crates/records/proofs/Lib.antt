@@ -1,3 +1,4 @@
+pub mod Tests
 pub mod Store
 pub mod Flat
 pub mod First

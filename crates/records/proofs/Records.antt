@@ -1,17 +1,20 @@
--- Laws of records of w numbers: where record k lies, what `within` says of each number, and what a loop needs that looks for
--- `firstAbove` or `firstBad`. Assumes nothing.
-use mathlib.Core.Path.{_≡_, sym, ap, _∙_}
-use mathlib.Core.Bool.{Bool, true, false, not, and-eq-true-iff}
+-- Laws of records of w numbers: where record k lies, what `within` says of each number, and what the loops need that look for
+-- a number above its limit or for `firstBad`. Assumes nothing.
+use mathlib.Core.Path.{_≡_, refl, sym, ap, _∙_}
+use mathlib.Core.Bool.{Bool, true, false, not, _||_, and-eq-true-iff}
+use mathlib.Core.Logic.{⊎-elim}
 use mathlib.Core.List.{List}
-use Prim.Native.Nat.{ℕ, _+_, _-_, _*_, _/_, _≤_, _<_}
-use native.Mathlib.Nat.{mul-comm, mul-suc, le-div-iff-mul-le, mul-add-div, div-eq-of-lt, sub-zero, add-zero, zero-add}
+use Prim.Native.Nat.{ℕ, zero, suc, _+_, _-_, _*_, _/_, _≤_, _<_}
+use native.Mathlib.Nat.{mul-comm, mul-suc, le-div-iff-mul-le, mul-add-div, div-eq-of-lt, sub-zero, add-zero, zero-add, eq-or-lt-of-le, le-of-suc-le-suc}
+use native.Mathlib.Numerals.{add-one}
 use native.Mathlib.Omega.{arith}
-use borrow.Author.Tests.{eq-eqb, eqb-true, leb-true, le-leb, lt-leb, ne-eqb, not-false}
-use lib.Dec.{eqb, leb}
+use borrow.Author.Tests.{eq-eqb, eqb-true, leb-true, le-leb, ltb-false, le-ltb, ne-eqb, not-true, not-false}
+use lib.Dec.{eqb, leb, ltb}
 use lib.ListN.{length, take, drop, getD, length-take, length-drop}
 use lib.Seq.{getD-take, getD-drop}
 use Rattle.records.specs.Lists.{first}
 use Rattle.records.specs.Records.{recordCount, recordAt, firstAbove, within, firstBad}
+use Rattle.records.proofs.Tests.{same-test, neither}
 use Rattle.records.proofs.First.{first-miss, first-hit, first-end, first-le, first-none, first-all}
 
 -- Where record k lies
@@ -47,7 +50,7 @@ record-count w n l pos e =
 
 -- Numbers within their limits
 
-abbrev pub above : List ℕ → List ℕ → ℕ → Bool
+abbrev above : List ℕ → List ℕ → ℕ → Bool
 above limits r i = not (leb (getD r i 0) (getD limits i 0))
 
 module _ (limits r : List ℕ) where
@@ -71,39 +74,44 @@ module _ (limits r : List ℕ) where
       and-eq-true-iff _ _ .1
       (eq-eqb _ _ e, eq-eqb _ _ (first-all (above limits r) 0 (length limits) (λ j a b. ap not (le-leb _ _ (h j (omega arith)))) ∙ zero-add _))
 
-  -- a loop that looks for the lowest number above its limit: it starts, passes a number, stops at one, ends
-  pub above-start : firstAbove limits r ≡ first (above limits r) 0 (length limits - 0)
-  unfolding firstAbove
-  above-start = rw sub-zero
-
-  pub above-pass : (i : ℕ) → i < length limits → getD r i 0 ≤ getD limits i 0
-      → first (above limits r) i (length limits - i) ≡ first (above limits r) (i + 1) (length limits - (i + 1))
-  above-pass i h le = first-miss (above limits r) i (length limits) h (ap not (le-leb _ _ le))
-
-  pub above-stop : (i : ℕ) → i < length limits → getD limits i 0 < getD r i 0 → first (above limits r) i (length limits - i) ≡ i
-  above-stop i h lt = first-hit (above limits r) i (length limits) h (ap not (lt-leb _ _ lt))
-
-  pub above-end : (i : ℕ) → length limits ≤ i → first (above limits r) i (length limits - i) ≡ i
-  above-end i h = first-end (above limits r) i (length limits) h
-
-  -- what such a loop answers: the record is cut, a number is above its limit, or none is
+  -- a record that is cut is not
   pub within-cut : (length r ≡ length limits → ⊥) → within limits r ≡ false
   unfolding within
   within-cut h = rw (ne-eqb (length r) (length limits) h)
 
-  pub within-stop : (i : ℕ) → length r ≡ length limits → i < length limits → firstAbove limits r ≡ first (above limits r) i (length limits - i)
-      → getD limits i 0 < getD r i 0 → within limits r ≡ false
-  unfolding within
-  within-stop i e h at lt =
-      let q : firstAbove limits r ≡ i = at ∙ above-stop i h lt in
-      rw (eq-eqb (length r) (length limits) e, ne-eqb (firstAbove limits r) (length limits) (λ z. omega arith))
+-- whether one of the first n numbers is above its limit
+unfoldable pub anyAbove : List ℕ → List ℕ → ℕ → Bool
+anyAbove limits r zero = false
+anyAbove limits r (suc n) = anyAbove limits r n || ltb (getD limits n 0) (getD r n 0)
 
-  pub within-end : (i : ℕ) → length r ≡ length limits → i ≡ length limits → firstAbove limits r ≡ first (above limits r) i (length limits - i)
-      → within limits r ≡ true
-  unfolding within
-  within-end i e h at =
-      let q : firstAbove limits r ≡ i = at ∙ above-end i (omega arith) in
-      rw (eq-eqb (length r) (length limits) e, eq-eqb (firstAbove limits r) (length limits) (q ∙ h))
+module _ (limits r : List ℕ) where
+  -- a loop that asks this of each number in turn
+  pub any-none : anyAbove limits r 0 ≡ false
+  unfolding anyAbove
+  any-none = refl
+
+  pub any-more : (n : ℕ) → anyAbove limits r (n + 1) ≡ anyAbove limits r n || ltb (getD limits n 0) (getD r n 0)
+  unfolding anyAbove
+  any-more n = rw (add-one n, anyAbove)
+
+  any-low : (n : ℕ) → anyAbove limits r n ≡ false → (i : ℕ) → i < n → getD r i 0 ≤ getD limits i 0
+  unfolding anyAbove
+  any-low zero e i h = absurd (omega arith)
+  any-low (suc n) e i h =
+      let both = neither (anyAbove limits r n) (ltb (getD limits n 0) (getD r n 0)) e in
+      ⊎-elim (λ (q : i ≡ n). rw q (ltb-false _ _ (both .1))) (λ (k : i < n). any-low n (both .0) i k) (eq-or-lt-of-le (le-of-suc-le-suc h))
+
+  low-any : (n : ℕ) → ((i : ℕ) → i < n → getD r i 0 ≤ getD limits i 0) → anyAbove limits r n ≡ false
+  unfolding anyAbove
+  low-any zero h = refl
+  low-any (suc n) h = rw (low-any n (λ i k. h i (omega arith)), le-ltb (getD limits n 0) (getD r n 0) (h n (omega arith)))
+
+  -- a whole record is within its limits where none is
+  pub within-any : length r ≡ length limits → not (anyAbove limits r (length limits)) ≡ within limits r
+  within-any e =
+      same-test (not (anyAbove limits r (length limits))) (within limits r)
+      (λ z. within-all limits r e (any-low (length limits) (not-true _ z)))
+      (λ z. ap not (low-any (length limits) (within-at limits r z)))
 
 -- Records that a test refuses
 

@@ -51,21 +51,20 @@ pub fn record_at(list: &[u64], w: usize, k: usize) -> &[u64]
     &list[start..start + w]
 }
 
-// Whether `r` is whole and each of its numbers is at most its limit.
+// Whether `r` is whole and each of its numbers is at most its limit. Every number is looked at, which asks no branch for each.
 pub fn within_limits(r: &[u64], limits: &[u64]) -> bool
     ensures { λ b. ⌜ b ≡ within (now (limits .entry)) (now (r .entry)) ⌝ }
 {
     if r.len() != limits.len() {
         return false;
     }
+    let mut above = false;
     let mut i = 0;
     while i < limits.len() {
-        if limits[i] < r[i] {
-            return false;
-        }
+        above = above | (limits[i] < r[i]);
         i += 1;
     }
-    true
+    !above
 }
 
 // The number of rows for `n` records: the "least power of two that is at least the record count", and at least 4. The leading zeros

@@ -1,60 +1,35 @@
--- `access::good_access` meets its contract: a good record passes each test, and a run of numbers that passes them all is a good record.
--- Assumes nothing.
+-- `access::good_access` meets its contract: the limits are those of an access record, and the width is left to ask. Assumes nothing.
 use mathlib.Core.Path.{sym, _∙_}
-use mathlib.Core.Bool.{true≢false}
 use native.Mathlib.Omega.{arith}
 use borrow.Author.Needs.{needs}
 use borrow.Author.Tests.{not-true, not-false}
 use denote.Ref.{now}
-use Rattle.access.specs.Access.{VALUE, OLD, goodAccess}
-use Rattle.access.proofs.Tests.{never-true, same-test}
-use Rattle.access.proofs.Good.{good-length, good-register, good-read, good-width, good-value, good-old, good-all}
-use Rattle.access.proofs.Words.{part-words, words-part}
+use Rattle.records.proofs.Records.{within-length}
+use Rattle.access.specs.Access.{accessLimits, goodAccess}
 use Rattle.access.proofs.good_access.Statement.{statement}
 use Rattle.access.proofs.good_access.Tie as tie
 
-returns-5 : tie.Need-returns-5
-returns-5 c =
-    let start = c .before .before .before .before .before .before .before .before .before .before .before .before in
-    let op = now (start .args .op) in
-    never-true _ (λ e. true≢false (sym (c .before .are-words .ensures ∙ words-part op VALUE (omega arith) (good-value op e)) ∙ not-true (c .before .are-words .result) (c .if5 .taken)))
+returns : tie.Need-returns
+unfolding goodAccess accessLimits
+returns c = rw (sym (c .before .within-limits .ensures) ∙ not-true _ (c .if1 .taken))
 
-returns-6 : tie.Need-returns-6
-returns-6 c =
-    let start = c .before .before .before .before .before .before .before .before .before .before .before .before .before .before in
-    let op = now (start .args .op) in
-    let width = not-false (c .before .before .before .before .before .before .is-width .result) (c .before .before .before .before .before .if4 .left) in
-    let value = not-false (c .before .before .before .are-words .result) (c .before .before .if5 .left) in
-    same-test (c .are-words2 .result) (goodAccess op)
-    (λ old.
-    good-all op (omega arith) (omega arith) (omega arith)
-    (sym (c .before .before .before .before .before .before .is-width .ensures) ∙ width)
-    (part-words op VALUE (omega arith) (sym (c .before .before .before .are-words .ensures) ∙ value))
-    (part-words op OLD (omega arith) (sym (c .are-words2 .ensures) ∙ old))
-    (λ i. omega (arith, c .before .before .before .before .before .before .before .before .before .before .before .before .before .shared-slice-known .given i)))
-    (λ e. c .are-words2 .ensures ∙ words-part op OLD (omega arith) (good-old op e))
+shared-slice-read-is-width : tie.Need-shared-slice-read-is-width
+unfolding accessLimits
+shared-slice-read-is-width c =
+    let op = now (c .before .before .before .before .before .args .op) in
+    omega (arith, within-length accessLimits op (sym (c .before .before .within-limits .ensures) ∙ not-false _ (c .before .if1 .left)))
+
+returns-2 : tie.Need-returns-2
+unfolding goodAccess accessLimits
+returns-2 c = rw (sym (c .before .before .before .within-limits .ensures) ∙ not-false _ (c .before .before .if1 .left)) (c .is-width .ensures)
 
 pub good-access-spec : {M : Type 1} → statement M
 good-access-spec =
     tie.close
     (tie.spec
-    (λ c. never-true _ (λ e. c .if1 .taken (good-length _ e)))
-    (λ c. search needs)
-    (λ c. never-true _ (λ e. omega (arith, good-register _ e)))
-    (λ c. search needs)
-    (λ c. never-true _ (λ e. omega (arith, good-read _ e)))
     (λ c. search needs)
     (λ c κs. search needs)
-    (λ c. never-true _ (λ e. true≢false (sym (c .before .is-width .ensures ∙ good-width _ e) ∙ not-true (c .before .is-width .result) (c .if4 .taken))))
-    (λ c. search needs)
-    (λ c. search needs)
-    (λ c. search needs)
-    (λ c. search needs)
+    returns
+    shared-slice-read-is-width
     (λ c κs. search needs)
-    returns-5
-    (λ c. search needs)
-    (λ c. search needs)
-    (λ c. search needs)
-    (λ c. search needs)
-    (λ c κs. search needs)
-    returns-6)
+    returns-2)

@@ -6,34 +6,32 @@ use borrow.Author.Needs.{needs}
 use borrow.Author.Tests.{not-true, not-false}
 use denote.Ref.{now}
 use Rattle.records.specs.Lists.{first}
-use Rattle.records.specs.Records.{recordCount, within, firstBad}
+use Rattle.records.specs.Records.{recordCount, firstBad}
 use Rattle.records.proofs.Records.{badAt, bad-start, bad-pass, bad-stop, bad-end}
-use Rattle.copy_row.specs.Trace.{OP-WIDTH, opLimits, goodOp}
+use Rattle.copy_row.specs.Trace.{OP-WIDTH, goodOp}
 use Rattle.copy_row.proofs.trace.first_bad.Statement.{statement}
 use Rattle.copy_row.proofs.trace.first_bad.Tie as tie
 
 abbrev Inv-loop : tie.InvT-loop
-Inv-loop ops n limits k₀ k =
+Inv-loop ops n k₀ k =
     (k ≤ n) × (firstBad OP-WIDTH goodOp ops ≡ first (badAt OP-WIDTH goodOp ops) k (recordCount OP-WIDTH ops - k))
 
 abbrev μ-loop : tie.MeasureT-loop
-μ-loop ops n limits k₀ k = n - k
+μ-loop ops n k₀ k = n - k
 
 returns : tie.Need-returns Inv-loop μ-loop
-unfolding opLimits
 returns c =
-    let read = c .before .before .before in
+    let read = c .before .before in
     let at = read .before .before in
-    let judged = c .before .within-limits .ensures ∙ ap (within opLimits) (read .record-at .ensures) in
+    let judged = c .before .good-op .ensures ∙ ap goodOp (read .record-at .ensures) in
     let bad = sym judged ∙ not-true _ (c .if1 .taken) in
     sym (at .loop .inv .1 ∙ bad-stop OP-WIDTH goodOp (now (at .before .before .args .ops)) (at .loop .k) (omega arith) bad)
 
 loop-again : tie.Need-loop-again Inv-loop μ-loop
-unfolding opLimits
 loop-again c =
-    let read = c .before .before .before in
+    let read = c .before .before in
     let at = read .before .before in
-    let judged = c .before .within-limits .ensures ∙ ap (within opLimits) (read .record-at .ensures) in
+    let judged = c .before .good-op .ensures ∙ ap goodOp (read .record-at .ensures) in
     let good = sym judged ∙ not-false _ (c .if1 .left) in
     let passed = bad-pass OP-WIDTH goodOp (now (at .before .before .args .ops)) (at .loop .k) (omega arith) good in
     (omega arith, at .loop .inv .1 ∙ passed)
@@ -51,7 +49,6 @@ first-bad-spec =
     μ-loop
     (λ c. (omega arith, bad-start _ _ _))
     (λ c κs. omega arith)
-    (λ c. search needs)
     (λ c κs. search needs)
     returns
     (λ c. search needs)

@@ -1,7 +1,12 @@
 -- `memw::tables::write_row` meets its contract: in each case, what is put into the row are the cells of the record. Assumes nothing.
-use mathlib.Core.Path.{sym, ap, _∙_}
+use mathlib.Core.Path.{_≡_, sym, ap, _∙_}
+use mathlib.Core.List.{List, _++_, append-nil}
+use Prim.Native.Nat.{ℕ}
+use native.Mathlib.Omega.{arith}
 use borrow.Author.Needs.{needs}
-use lib.ListN.{length}
+use denote.Ref.{now}
+use lib.ListN.{length, take, drop, drop-of-length-le}
+use lib.Seq.{length-take-le}
 use Rattle.memw_rows.specs.Rows.{memwRow, alignedRow, registerRow}
 use Rattle.memw_rows.proofs.Wide.{memw-wide, aligned-wide, register-wide}
 use Rattle.memw.specs.Tables.{recordWidth, rowWidth}
@@ -18,12 +23,26 @@ operation-requires-2 c κs = c .before .before .before .before .pre .1 ∙ ap re
 reg-row-requires : tie.Need-reg-row-requires
 reg-row-requires c κs = c .before .before .before .before .pre .1 ∙ ap recordWidth (c .enum-told3 .given .1)
 
--- the row is as wide as the cells
+-- the row is as wide as the cells; the general table lends on a part that is the whole row, and what comes back in its place is the row
+part-wide : (row : List ℕ) (n : ℕ) → length row ≡ n → length (take n row) ≡ n
+part-wide row n e = length-take-le n row (omega arith)
+
+whole : (row cells : List ℕ) (n : ℕ) → length row ≡ n → cells ++ drop n row ≡ cells
+whole row cells n e = ap (λ (r : List ℕ). cells ++ r) (drop-of-length-le row {i = n} (omega arith)) ∙ append-nil cells
+
+part-put-end : tie.Need-part-put-end
+part-put-end c =
+    let told = c .before .before in
+    let start = told .before .before .before .before in
+    let wide = start .pre .0 ∙ ap rowWidth (told .enum-told .given .1) in
+    omega arith
+
 put-requires : tie.Need-put-requires
 put-requires c κs =
     let told = c .before .before .before .before in
-    told .before .before .before .before .pre .0 ∙ ap rowWidth (told .enum-told .given .1)
-    ∙ sym (ap length (c .before .before .memw-cells .ensures) ∙ memw-wide _)
+    let start = told .before .before .before .before in
+    let wide = start .pre .0 ∙ ap rowWidth (told .enum-told .given .1) in
+    part-wide (now (start .args .row)) 49 wide ∙ sym (ap length (c .before .before .memw-cells .ensures) ∙ memw-wide _)
 
 put-requires-2 : tie.Need-put-requires-2
 put-requires-2 c κs =
@@ -40,8 +59,11 @@ put-requires-3 c κs =
 returns : tie.Need-returns
 returns c =
     let made = c .before .before .before .before .before in
-    rw (made .before .before .enum-told .given .1)
-    (c .before .before .put .ensures ∙ made .memw-cells .ensures ∙ ap memwRow (made .before .operation .ensures))
+    let told = made .before .before in
+    let start = told .before .before .before .before in
+    let wide = start .pre .0 ∙ ap rowWidth (told .enum-told .given .1) in
+    rw (told .enum-told .given .1)
+    (whole (now (start .args .row)) _ 49 wide ∙ c .before .before .put .ensures ∙ made .memw-cells .ensures ∙ ap memwRow (made .before .operation .ensures))
 
 returns-2 : tie.Need-returns-2
 returns-2 c =
@@ -62,6 +84,9 @@ write-row-spec =
     (λ c. search needs)
     operation-requires
     (λ c κs. search needs)
+    (λ c. search needs)
+    (λ c. search needs)
+    part-put-end
     (λ c. search needs)
     put-requires
     (λ c. search needs)

@@ -1,44 +1,43 @@
--- `records::lists::within_limits` meets its contract. The invariant: the lowest number above its limit is the lowest from `i` on.
+-- `records::lists::within_limits` meets its contract. The invariant: `above` says whether one of the numbers passed is above its limit.
 -- Assumes nothing.
-use mathlib.Core.Path.{_≡_, sym, _∙_}
+use mathlib.Core.Path.{_≡_, sym, ap, _∙_}
+use mathlib.Core.Bool.{Bool, not, _||_}
 use Prim.Native.Nat.{_-_, _≤_}
 use native.Mathlib.Omega.{arith}
 use borrow.Author.Needs.{needs}
 use denote.Ref.{now}
-use lib.ListN.{length}
-use Rattle.records.specs.Lists.{first}
-use Rattle.records.specs.Records.{firstAbove}
-use Rattle.records.proofs.Records.{above, above-start, above-pass, within-cut, within-stop, within-end}
+use lib.Dec.{ltb}
+use lib.ListN.{length, getD}
+use Rattle.records.proofs.Records.{anyAbove, any-none, any-more, within-cut, within-any}
 use Rattle.records.proofs.lists.within_limits.Statement.{statement}
 use Rattle.records.proofs.lists.within_limits.Tie as tie
 
 abbrev Inv-loop : tie.InvT-loop
-Inv-loop r limits i₀ i = (i ≤ length limits) × (length r ≡ length limits) × (firstAbove limits r ≡ first (above limits r) i (length limits - i))
+Inv-loop r limits above₀ i₀ above i = (i ≤ length limits) × (length r ≡ length limits) × (above ≡ anyAbove limits r i)
 
 abbrev μ-loop : tie.MeasureT-loop
-μ-loop r limits i₀ i = length limits - i
+μ-loop r limits above₀ i₀ above i = length limits - i
 
 returns : tie.Need-returns Inv-loop μ-loop
 returns c = sym (within-cut _ _ (c .if1 .taken))
 
-loop-holds : tie.Need-loop-holds Inv-loop μ-loop
-loop-holds c = (omega arith, c .if1 .left, above-start _ _)
+loop-again : tie.Need-loop-again Inv-loop μ-loop
+loop-again c =
+    let at = c .before .before .before .loop in
+    let args = c .before .before .before .before .before .args in
+    let limits = now (args .limits) in
+    let r = now (args .r) in
+    let i = at .i in
+    (omega arith, at .inv .1, ap (λ (b : Bool). b || ltb (getD limits i 0) (getD r i 0)) (at .inv .2) ∙ sym (any-more limits r i))
 
 returns-2 : tie.Need-returns-2 Inv-loop μ-loop
 returns-2 c =
-    let at = c .before .before .before .before .loop in
-    sym (within-stop _ _ (at .i) (at .inv .1) (omega arith) (at .inv .2) (c .if2 .taken))
-
-loop-again : tie.Need-loop-again Inv-loop μ-loop
-loop-again c =
-    let start = c .before .before .before .before .before .before in
-    let at = c .before .before .before .before .loop in
-    (omega arith, at .inv .1, at .inv .2 ∙ above-pass (now (start .args .limits)) (now (start .args .r)) (at .i) (omega arith) (c .if2 .left))
-
-returns-3 : tie.Need-returns-3 Inv-loop μ-loop
-returns-3 c =
     let at = c .before .loop in
-    sym (within-end _ _ (at .i) (at .inv .1) (omega arith) (at .inv .2))
+    let args = c .before .before .before .args in
+    let limits = now (args .limits) in
+    let r = now (args .r) in
+    let e : at .i ≡ length limits = omega arith in
+    ap not (at .inv .2 ∙ ap (anyAbove limits r) e) ∙ within-any limits r (at .inv .1)
 
 pub within-limits-spec : {M : Type 1} → statement M
 within-limits-spec =
@@ -47,13 +46,12 @@ within-limits-spec =
     Inv-loop
     μ-loop
     returns
-    loop-holds
+    (λ c. (omega arith, c .if1 .left, sym (any-none _ _)))
     (λ c. search needs)
     (λ c. search needs)
     (λ c. search needs)
     (λ c. search needs)
-    returns-2
     (λ c. search needs)
     (λ c. search needs)
     loop-again
-    returns-3)
+    returns-2)
