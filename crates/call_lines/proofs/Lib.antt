@@ -4,3 +4,6 @@ pub mod Turns
 pub mod Printed
 pub mod Lengths
 pub mod Prefix
+pub mod Examples
+pub mod Typed
+pub mod Passes

@@ -23,7 +23,7 @@ use Rattle.line_text.specs.declared.Line.{Line}
 use Rattle.line_text.specs.declared.Line.the-variants.{Call, Other}
 use Rattle.line_text.proofs.Pieces.{lines-first}
 use Rattle.row_text.specs.Rows.{refusedText}
-use Rattle.call_lines.specs.Run.{Run, Ending, refused, OPS-ROOM, answered, ranOf, onAnswer, onLine, linesFrom}
+use Rattle.call_lines.specs.Run.{Run, refused, OPS-ROOM, answered, ranOf, onAnswer, onLine, linesFrom}
 use Rattle.call_lines.specs.Output.{endingText, start, onGap, outputOf, PrefixDecides}
 use Rattle.call_lines.proofs.Accepted.{room-falls}
 use Rattle.call_lines.proofs.Lengths.{index-le, call-long, gap-long}
