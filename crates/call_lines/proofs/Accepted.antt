@@ -101,30 +101,42 @@ room-falls gap c s e =
     rw length-append (omega (arith, r .some, r .fits, records-length c (s .bytes)))
 
 -- what it leaves in the slices that were lent for it
-module _ (gap : ℕ) (c : Call) (bytes stamps records ops accesses : List ℕ) (o : length ops ≡ OPS-ROOM - length records) (a : length accesses ≡ ACCESSES-ROOM) where
+module _
+    (gap : ℕ) (c : Call) (bytes stamps records ops accesses : List ℕ)
+    (o : length ops ≡ OPS-ROOM - length records)
+    (a : length accesses ≡ ACCESSES-ROOM) where
   abbrev slices : Lent
   slices = lent bytes stamps ops accesses
 
-  pub same-answer : expansionNumbers (answerFor 65536 gap c slices) .answer ≡ answered gap c (run bytes stamps records)
+  abbrev after : Lent
+  after = lentAfter 65536 gap c slices
+
+  abbrev state : Run
+  state = run bytes stamps records
+
+  pub same-answer : expansionNumbers (answerFor 65536 gap c slices) .answer ≡ answered gap c state
   same-answer = rw (o, a)
 
-  pub left : answered gap c (run bytes stamps records) .number ≡ 0
-      → let after = lentAfter 65536 gap c slices in
-      run (after .bytes) (after .stamps) (records ++ take (OP-WIDTH * answered gap c (run bytes stamps records) .value) (after .ops))
-      ≡ ranOf c (run bytes stamps records)
-  unfolding lentAfter expanded
-  left e =
-      let accepts : expansionNumbers (answerFor 65536 gap c slices) .answer .number ≡ 0 = ap (λ (x : Answer). x .number) same-answer ∙ e in
-      let x = is-expanded (answerFor 65536 gap c slices) accepts in
-      let after : lentAfter 65536 gap c slices ≡ expanded c slices = after-is (x .0) (x .1 .0) (x .1 .1) in
-      let wrote = ap (λ (y : Answer). take (OP-WIDTH * y .value) (lentAfter 65536 gap c slices .ops)) (sym same-answer) ∙ ops-written 65536 gap c slices accepts in
-      λ i. run (bytes-are after i) (stamps-are after i) (records ++ wrote i)
-    where
-      after-is : (n m : ℕ) → answerFor 65536 gap c slices ≡ Expanded n m → lentAfter 65536 gap c slices ≡ expanded c slices
-      after-is n m h = ap (λ (y : ExpansionAnswer). ifExpanded y (expanded c slices) slices) h
+  module _ (e : answered gap c state .number ≡ 0) where
+    accepts : expansionNumbers (answerFor 65536 gap c slices) .answer .number ≡ 0
+    accepts = ap (λ (x : Answer). x .number) same-answer ∙ e
 
-      bytes-are : lentAfter 65536 gap c slices ≡ expanded c slices → lentAfter 65536 gap c slices .bytes ≡ callBytes c bytes
-      bytes-are h = ap (λ (l : Lent). l .bytes) h
+    after-is : after ≡ expanded c slices
+    unfolding lentAfter
+    after-is =
+        let x = is-expanded (answerFor 65536 gap c slices) accepts in
+        ap (λ (y : ExpansionAnswer). ifExpanded y (expanded c slices) slices) (x .1 .1)
 
-      stamps-are : lentAfter 65536 gap c slices ≡ expanded c slices → lentAfter 65536 gap c slices .stamps ≡ callStamps c (windowOf bytes stamps)
-      stamps-are h = ap (λ (l : Lent). l .stamps) h
+    bytes-are : after .bytes ≡ callBytes c bytes
+    unfolding expanded
+    bytes-are = ap (λ (l : Lent). l .bytes) after-is
+
+    stamps-are : after .stamps ≡ callStamps c (windowOf bytes stamps)
+    unfolding expanded
+    stamps-are = ap (λ (l : Lent). l .stamps) after-is
+
+    ops-are : take (OP-WIDTH * answered gap c state .value) (after .ops) ≡ flatMap opRecord (callOps c bytes)
+    ops-are = ap (λ (y : Answer). take (OP-WIDTH * y .value) (after .ops)) (sym same-answer) ∙ ops-written 65536 gap c slices accepts
+
+    pub left : run (after .bytes) (after .stamps) (records ++ take (OP-WIDTH * answered gap c state .value) (after .ops)) ≡ ranOf c state
+    left = λ i. run (bytes-are i) (stamps-are i) (records ++ ops-are i)

@@ -7,3 +7,4 @@ pub mod Prefix
 pub mod Examples
 pub mod Typed
 pub mod Passes
+pub mod Nine

@@ -18,8 +18,11 @@ use Rattle.line_text.specs.declared.Line.the-variants.{Call, Other}
 use Rattle.call_lines.specs.declared.Step.the-variants.{Rows, Stop}
 use Rattle.call_lines.specs.Step.{stepOf, lineStep, lineAfter}
 
--- an answer that is not Expanded has a number
-refusal-number : (a : ExpansionAnswer) → OneOf (1 ∷ 2 ∷ 3 ∷ 4 ∷ 5 ∷ 6 ∷ 7 ∷ []) (tagOf the-type a) → expansionNumbers a .answer .number ≡ 0 → ⊥
+-- an answer that is not Expanded, which is case 0, has a number
+abbrev Refused : ExpansionAnswer → Type 0
+Refused a = OneOf (1 ∷ 2 ∷ 3 ∷ 4 ∷ 5 ∷ 6 ∷ 7 ∷ []) (tagOf the-type a)
+
+refusal-number : (a : ExpansionAnswer) → Refused a → expansionNumbers a .answer .number ≡ 0 → ⊥
 refusal-number (Expanded ops accesses) k e = absurd (miss (1 ∷ 2 ∷ 3 ∷ 4 ∷ 5 ∷ 6 ∷ 7 ∷ []) 0 tt k)
 refusal-number GapTooLarge k e = omega arith
 refusal-number BadWindow k e = omega arith
@@ -45,7 +48,7 @@ module _ (gap : ℕ) (p : Line) (l after : Lent) (kind : Functionality) (stamp s
   after-at = g ∙ ap (λ (q : Line). lineAfter gap q l) (sym e)
 
   -- a call that is refused
-  pub step-stop : (n : Answer) → n ≡ expansionNumbers a .answer → OneOf (1 ∷ 2 ∷ 3 ∷ 4 ∷ 5 ∷ 6 ∷ 7 ∷ []) (tagOf the-type a)
+  pub step-stop : (n : Answer) → n ≡ expansionNumbers a .answer → Refused a
       → (Stop (n .number) ≡ lineStep gap p l) × (after ≡ lineAfter gap p l)
   step-stop n q k =
       let not-zero = ne-eqb (expansionNumbers a .answer .number) 0 (refusal-number a k) in

@@ -81,7 +81,8 @@ module _ (gap : ℕ) (kind : Functionality) (stamp src dst count : ℕ) (s : Run
   try-wrote e = ops-written 65536 gap c (t .slices) (ap (λ (a : Answer). a .number) try-answered ∙ e)
 
 -- one more accepted call in front
-accepted-more : (gap : ℕ) (t : Try) (tries : List Try) → demand.answered gap t .number ≡ 0 → acceptedOps gap (t ∷ tries) ≡ opsWritten gap t ++ acceptedOps gap tries
+accepted-more : (gap : ℕ) (t : Try) (tries : List Try) → demand.answered gap t .number ≡ 0
+    → acceptedOps gap (t ∷ tries) ≡ opsWritten gap t ++ acceptedOps gap tries
 unfolding flatMap
 accepted-more gap t tries e = rw (eq-eqb (demand.answered gap t .number) 0 e)
 
@@ -96,10 +97,12 @@ not-done : (n line : ℕ) (records : List ℕ) → refused n line ≡ done recor
 not-done n line records e = let z : _≡_ {A = ℕ} 0 1 = cc in omega arith
 
 -- an answer after which the lines go on
-goes-on : (a : Answer) (line : ℕ) (next : Ending) (records : List ℕ) → onAnswer a line next ≡ done records → (a .number ≡ 0) × (next ≡ done records)
+goes-on : (a : Answer) (line : ℕ) (next : Ending) (records : List ℕ) → onAnswer a line next ≡ done records
+    → (a .number ≡ 0) × (next ≡ done records)
 goes-on a line next records = go (eqb (a .number) 0) refl
   where
-    go : (b : Bool) → eqb (a .number) 0 ≡ b → cond b next (refused (a .number) line) ≡ done records → (a .number ≡ 0) × (next ≡ done records)
+    go : (b : Bool) → eqb (a .number) 0 ≡ b → cond b next (refused (a .number) line) ≡ done records
+        → (a .number ≡ 0) × (next ≡ done records)
     go true e f = (eqb-true (a .number) 0 e, f)
     go false e f = absurd (not-done _ _ _ f)
 
@@ -109,10 +112,17 @@ recordsOf (refused n line) = []
 
 none-left : (gap : ℕ) (s : Run) (records : List ℕ) → length (s .records) ≤ OPS-ROOM → s .records ≡ records → Tried gap s records
 unfolding flatMap
-none-left gap s records h e = record { tries = []; typed = tt; wrote = sym (append-nil (s .records) ∙ e); fits = subst (λ (l : List ℕ). length l ≤ OPS-ROOM) e h }
+none-left gap s records h e =
+    record {
+      tries = [];
+      typed = tt;
+      wrote = sym (append-nil (s .records) ∙ e);
+      fits = subst (λ (l : List ℕ). length l ≤ OPS-ROOM) e h;
+    }
 
-one-more : (gap : ℕ) (l : List ℕ) (kind : Functionality) (stamp src dst count : ℕ) (s : Run) (records : List ℕ) → callOf l ≡ Call kind stamp src dst count
-    → Bytes (s .bytes) → answered gap (callWith kind stamp src dst count) s .number ≡ 0 → Tried gap (ranOf (callWith kind stamp src dst count) s) records
+one-more : (gap : ℕ) (l : List ℕ) (kind : Functionality) (stamp src dst count : ℕ) (s : Run) (records : List ℕ)
+    → let c = callWith kind stamp src dst count in
+    callOf l ≡ Call kind stamp src dst count → Bytes (s .bytes) → answered gap c s .number ≡ 0 → Tried gap (ranOf c s) records
     → Tried gap s records
 unfolding tryOf
 one-more gap l kind stamp src dst count s records e bytes taken later =
@@ -131,7 +141,8 @@ one-more gap l kind stamp src dst count s records e bytes taken later =
       fits = later .fits;
     }
 
-ran-fits : (gap : ℕ) (c : calls.Call) (s : Run) → answered gap c s .number ≡ 0 → length (s .records) ≤ OPS-ROOM → length (ranOf c s .records) ≤ OPS-ROOM
+ran-fits : (gap : ℕ) (c : calls.Call) (s : Run) → answered gap c s .number ≡ 0 → length (s .records) ≤ OPS-ROOM
+    → length (ranOf c s .records) ≤ OPS-ROOM
 ran-fits gap c s e h = rw length-append (omega (arith, room gap c s e .fits, records-length c (s .bytes)))
 
 lines-tried : (gap line : ℕ) (ls : List (List ℕ)) (s : Run) (records : List ℕ) → Bytes (s .bytes) → length (s .records) ≤ OPS-ROOM
@@ -143,7 +154,8 @@ lines-tried gap line (l ∷ ls) s records b h e =
   where
     go : (p : Line) → callOf l ≡ p
         → onLine p line (λ c. onAnswer (answered gap c s) line (linesFrom gap (line + 1) ls (ranOf c s))) ≡ done records
-        → ((c : calls.Call) → answered gap c s .number ≡ 0 → linesFrom gap (line + 1) ls (ranOf c s) ≡ done records → Tried gap (ranOf c s) records)
+        → ((c : calls.Call) → answered gap c s .number ≡ 0 → linesFrom gap (line + 1) ls (ranOf c s) ≡ done records
+        → Tried gap (ranOf c s) records)
         → Tried gap s records
     go Other q e later = absurd (not-done _ _ _ e)
     go (Call kind stamp src dst count) q e later =

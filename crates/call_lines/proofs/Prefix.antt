@@ -36,7 +36,8 @@ index-take b zero l = omega arith
 index-take b (suc n) [] = omega arith
 index-take b (suc n) (x ∷ l) = go (eqb x b) (index-take b n l)
   where
-    go : (t : Bool) → indexOf b (take n l) ≡ min n (indexOf b l) → cond t 0 (suc (indexOf b (take n l))) ≡ min (suc n) (cond t 0 (suc (indexOf b l)))
+    go : (t : Bool) → indexOf b (take n l) ≡ min n (indexOf b l)
+        → cond t 0 (suc (indexOf b (take n l))) ≡ min (suc n) (cond t 0 (suc (indexOf b l)))
     go true e = omega arith
     go false e = omega arith
 
@@ -67,7 +68,8 @@ module _ (n : ℕ) (l : List ℕ) (inside : indexOf 10 l < n) where
 
 module _
     (gap line : ℕ) (s : Run) (l : List ℕ) (rest all : List (List ℕ))
-    (after-it : length l ≤ 89 → (c : calls.Call) → answered gap c s .number ≡ 0 → linesFrom gap (line + 1) rest (ranOf c s) ≡ linesFrom gap (line + 1) all (ranOf c s)) where
+    (after-it : length l ≤ 89 → (c : calls.Call) → answered gap c s .number ≡ 0
+    → linesFrom gap (line + 1) rest (ranOf c s) ≡ linesFrom gap (line + 1) all (ranOf c s)) where
   line-short : (kind : Functionality) (stamp src dst count : ℕ) → callOf l ≡ Call kind stamp src dst count → length l ≤ 89
   line-short kind stamp src dst count e = go (leb (length l) 89) refl
     where
@@ -151,5 +153,5 @@ prefix-decides n l h = go (ltb (indexOf 10 l) 25) refl
         (λ gap. ap (endingText gap) (calls-prefix 33 gap 2 (n - (indexOf 10 l + 1)) (after 10 l) start (omega arith) (omega arith))))
     go false e =
         let far = ltb-false (indexOf 10 l) 25 e in
-        rw
-        (gap-long (before 10 (take n l)) (omega (arith, line-length (take n l), index-take 10 n l)), gap-long (before 10 l) (omega (arith, line-length l)))
+        let prefix = gap-long (before 10 (take n l)) (omega (arith, line-length (take n l), index-take 10 n l)) in
+        rw (prefix, gap-long (before 10 l) (omega (arith, line-length l)))

@@ -1,5 +1,5 @@
 -- The verdict as the code finds it, and the output of each way that the call lines end. Assumes nothing.
-use mathlib.Core.Path.{_≡_, refl, sym, ap, _∙_}
+use mathlib.Core.Path.{_≡_, refl, sym, ap, _∙_, subst}
 use mathlib.Core.List.{List, _++_}
 use Prim.Native.Nat.{ℕ, _+_, _-_, _*_, _/_, _^_, _≤_, _<_}
 use native.Mathlib.Nat.{sub-zero, zero-add}
@@ -22,7 +22,7 @@ use Rattle.row_text.specs.Rows.{rowsText, passedText, refusedText}
 use Rattle.row_text.proofs.Wrote.{Wrote}
 use Rattle.call_lines.specs.declared.Ran.{Ran}
 use Rattle.call_lines.specs.declared.Ran.the-variants.{Done, Refused}
-use Rattle.call_lines.specs.Run.{done, linesFrom, endingOf}
+use Rattle.call_lines.specs.Run.{done, linesFrom, endingOf, liveRows}
 use Rattle.call_lines.specs.Output.{TABLE-ROOM, tableOf, verdictOf, verdictText, endingText, start, outputOf}
 
 -- The verdict
@@ -53,7 +53,8 @@ verdict-refuses a e = rw (ne-eqb (a .number) 0 e)
 -- What is written
 
 -- a text that was written from the front on
-pub written : {out m : List ℕ} {r : ℕ} {t u : List ℕ} → Wrote out m 0 r t → t ≡ u → r ≤ 8192 → ((r ≡ length u) × (r ≤ 8192)) × (m ≡ store out 0 u)
+pub written : {out m : List ℕ} {r : ℕ} {t u : List ℕ} → Wrote out m 0 r t → t ≡ u → r ≤ 8192
+    → ((r ≡ length u) × (r ≤ 8192)) × (m ≡ store out 0 u)
 written {out} {m} {r} {t} {u} w e h = ((w .place ∙ zero-add (length t) ∙ ap length e, h), w .list ∙ ap (store out 0) e)
 
 -- or from an index on
@@ -67,13 +68,18 @@ unfolding endingText
 done-text gap ops a e = ap (λ (x : Answer). rowsText 0 (length ops / OP-WIDTH) ops ++ verdictText x) e
 
 -- the output for the call lines, by what they came to
+pub rows-most : (r : Ran) (rows : ℕ) → liveRows r ≤ 32 → r ≡ Done rows → rows ≤ 32
+rows-most r rows h q = subst (λ (x : Ran). liveRows x ≤ 32) q h
+
 module _ (gap : ℕ) (text ops : List ℕ) (r : Ran) (e : endingOf r ops ≡ linesFrom gap 2 (lines text) start) where
-  pub ran-done : (rows : ℕ) → r ≡ Done rows → endingText gap (done (take (OP-WIDTH * rows - 0) ops)) ≡ endingText gap (linesFrom gap 2 (lines text) start)
+  pub ran-done : (rows : ℕ) → r ≡ Done rows
+      → endingText gap (done (take (OP-WIDTH * rows - 0) ops)) ≡ endingText gap (linesFrom gap 2 (lines text) start)
   ran-done rows q =
       ap (λ (n : ℕ). endingText gap (done (take n ops))) (sub-zero (OP-WIDTH * rows))
       ∙ ap (endingText gap) (sym (ap (λ (x : Ran). endingOf x ops) q) ∙ e)
 
-  pub ran-refused : (number line : ℕ) → r ≡ Refused number line → refusedText number line ≡ endingText gap (linesFrom gap 2 (lines text) start)
+  pub ran-refused : (number line : ℕ) → r ≡ Refused number line
+      → refusedText number line ≡ endingText gap (linesFrom gap 2 (lines text) start)
   unfolding endingText
   ran-refused number line q = ap (endingText gap) (sym (ap (λ (x : Ran). endingOf x ops) q) ∙ e)
 

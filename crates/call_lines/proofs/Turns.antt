@@ -64,7 +64,8 @@ module _
   abbrev slices : Lent
   slices = lent bytes stamps ops accesses
 
-  pub line-stops : (n : ℕ) (l : List ℕ) (ls : List (List ℕ)) → lineStep gap (callOf l) slices ≡ Stop n → linesFrom gap line (l ∷ ls) state ≡ refused n line
+  pub line-stops : (n : ℕ) (l : List ℕ) (ls : List (List ℕ)) → lineStep gap (callOf l) slices ≡ Stop n
+      → linesFrom gap line (l ∷ ls) state ≡ refused n line
   unfolding linesFrom
   line-stops n l ls = go (callOf l)
     where
@@ -90,7 +91,8 @@ module _
 
     pub line-goes : (ls : List (List ℕ))
         → let after = lineAfter gap (callOf l) slices in
-        linesFrom gap line (l ∷ ls) state ≡ linesFrom gap (line + 1) ls (run (after .bytes) (after .stamps) (records ++ take (OP-WIDTH * m) (after .ops)))
+        linesFrom gap line (l ∷ ls) state
+        ≡ linesFrom gap (line + 1) ls (run (after .bytes) (after .stamps) (records ++ take (OP-WIDTH * m) (after .ops)))
     unfolding linesFrom
     line-goes ls = go (callOf l) e
       where
@@ -110,9 +112,15 @@ module _
 
 -- A turn of the loop, at index `at` of the text and with so many rows so far
 
--- the part of the buffer that is lent for a line
+-- the records so far, the part of the buffer that is lent for a line, and the buffer with that part come back as ys
+abbrev pub soFar : List ℕ → ℕ → List ℕ
+soFar ops rows = take (16 * rows) ops
+
 abbrev pub free : List ℕ → ℕ → List ℕ
 free ops rows = take (length ops - 16 * rows) (drop (16 * rows) ops)
+
+abbrev pub cameBack : List ℕ → ℕ → List ℕ → List ℕ
+cameBack ops rows ys = soFar ops rows ++ (ys ++ drop (length ops - 16 * rows) (drop (16 * rows) ops))
 
 -- what is known when the line has been taken
 pub record Turn (gap at rows : ℕ) (text bytes stamps ops accesses piece : List ℕ) (step : Step) : Type 0 where
@@ -123,59 +131,76 @@ pub record Turn (gap at rows : ℕ) (text bytes stamps ops accesses piece : List
   pub line : piece ≡ before 10 (take (length text - at) (drop at text))
   pub came : step ≡ lineStep gap (callOf piece) (lent bytes stamps (free ops rows) accesses)
 
-module _ {gap at rows : ℕ} {text bytes stamps ops accesses piece : List ℕ} {step : Step} (t : Turn gap at rows text bytes stamps ops accesses piece step) where
-  room-left : length (free ops rows) ≡ OPS-ROOM - length (take (16 * rows) ops)
+module _
+    {gap at rows : ℕ} {text bytes stamps ops accesses piece : List ℕ} {step : Step}
+    (t : Turn gap at rows text bytes stamps ops accesses piece step) where
+  abbrev lentNow : Lent
+  lentNow = lent bytes stamps (free ops rows) accesses
+
+  abbrev stateNow : Run
+  stateNow = run bytes stamps (soFar ops rows)
+
+  so-far-length : length (soFar ops rows) ≡ 16 * rows
+  so-far-length = length-take-le (16 * rows) ops (omega (arith, t .ops-room, t .rows-room))
+
+  room-left : length (free ops rows) ≡ OPS-ROOM - length (soFar ops rows)
   room-left = simp (length-take, length-drop) (omega (arith, t .ops-room, t .rows-room))
 
-  here : (x : Step) → step ≡ x → lineStep gap (callOf (before 10 (drop at text))) (lent bytes stamps (free ops rows) accesses) ≡ x
-  here x e =
-      sym (ap (λ (l : List ℕ). lineStep gap (callOf l) (lent bytes stamps (free ops rows) accesses)) (t .line ∙ ap (before 10) (rest-is text at)))
-      ∙ sym (t .came)
-      ∙ e
+  -- the piece is the first line that is left
+  piece-is : piece ≡ before 10 (drop at text)
+  piece-is = t .line ∙ ap (before 10) (rest-is text at)
+
+  first-left : (line : ℕ)
+      → linesFrom gap line (lines (drop at text)) stateNow
+      ≡ linesFrom gap line (before 10 (drop at text) ∷ lines (after 10 (drop at text))) stateNow
+  first-left line = ap (λ (ls : List (List ℕ)). linesFrom gap line ls stateNow) (lines-at text at (t .more))
+
+  here : (x : Step) → step ≡ x → lineStep gap (callOf (before 10 (drop at text))) lentNow ≡ x
+  here x e = sym (ap (λ (l : List ℕ). lineStep gap (callOf l) lentNow) piece-is) ∙ sym (t .came) ∙ e
 
   -- the line is refused
-  pub turn-stops : (n line : ℕ) → step ≡ Stop n → refused n line ≡ linesFrom gap line (lines (drop at text)) (run bytes stamps (take (16 * rows) ops))
+  pub turn-stops : (n line : ℕ) → step ≡ Stop n → refused n line ≡ linesFrom gap line (lines (drop at text)) stateNow
   turn-stops n line e =
       sym
-      (ap (λ (ls : List (List ℕ)). linesFrom gap line ls (run bytes stamps (take (16 * rows) ops))) (lines-at text at (t .more))
-      ∙ line-stops gap line bytes stamps (take (16 * rows) ops) (free ops rows) accesses room-left (t .accesses-room) n _ _ (here (Stop n) e))
+      (first-left line
+      ∙ line-stops gap line bytes stamps (soFar ops rows) (free ops rows) accesses room-left (t .accesses-room) n _ _ (here (Stop n) e))
 
   module _ (m : ℕ) (e : step ≡ Rows m) where
     pub turn-fits : (0 < m) × (16 * (rows + m) ≤ OPS-ROOM)
     turn-fits =
-        let f = line-fits gap 0 bytes stamps (take (16 * rows) ops) (free ops rows) accesses room-left (t .accesses-room) m _ (here (Rows m) e) in
-        let w : length (take (16 * rows) ops) ≡ 16 * rows = length-take-le (16 * rows) ops (omega (arith, t .ops-room, t .rows-room)) in
-        (f .0, omega (arith, f .1, w, t .rows-room))
+        let f = line-fits gap 0 bytes stamps (soFar ops rows) (free ops rows) accesses room-left (t .accesses-room) m _ (here (Rows m) e) in
+        (f .0, omega (arith, f .1, so-far-length, t .rows-room))
 
-    -- the buffer, with what the line left in the part that was lent
-    joined : (ys : List ℕ) → take (16 * (rows + m)) (take (16 * rows) ops ++ (ys ++ drop (length ops - 16 * rows) (drop (16 * rows) ops))) ≡ take (16 * rows) ops ++ take (16 * m) ys
+    joined : (ys : List ℕ) → take (16 * (rows + m)) (cameBack ops rows ys) ≡ soFar ops rows ++ take (16 * m) ys
     joined ys =
-        let w : length (take (16 * rows) ops) ≡ 16 * rows = length-take-le (16 * rows) ops (omega (arith, t .ops-room, t .rows-room)) in
-        let n : 16 * (rows + m) ≡ length (take (16 * rows) ops) + 16 * m = omega arith in
+        let n : 16 * (rows + m) ≡ length (soFar ops rows) + 16 * m = omega (arith, so-far-length) in
         let short : length (drop (16 * rows) ops) ≤ length ops - 16 * rows = simp length-drop (omega arith) in
-        ap (λ (x : List ℕ). take (16 * (rows + m)) (take (16 * rows) ops ++ (ys ++ x))) (drop-of-length-le (drop (16 * rows) ops) short)
-        ∙ ap (λ (x : List ℕ). take (16 * (rows + m)) (take (16 * rows) ops ++ x)) (append-nil ys)
-        ∙ ap (λ (k : ℕ). take k (take (16 * rows) ops ++ ys)) n
-        ∙ take-append-add (take (16 * rows) ops) ys (16 * m)
+        ap (λ (x : List ℕ). take (16 * (rows + m)) (soFar ops rows ++ (ys ++ x))) (drop-of-length-le (drop (16 * rows) ops) short)
+        ∙ ap (λ (x : List ℕ). take (16 * (rows + m)) (soFar ops rows ++ x)) (append-nil ys)
+        ∙ ap (λ (k : ℕ). take k (soFar ops rows ++ ys)) n
+        ∙ take-append-add (soFar ops rows) ys (16 * m)
 
     -- the line's call is accepted
-    pub turn-goes : (line next : ℕ) (bs ss ys xs : List ℕ) → lent bs ss ys xs ≡ lineAfter gap (callOf piece) (lent bytes stamps (free ops rows) accesses)
+    pub turn-goes : (line next : ℕ) (bs ss ys xs : List ℕ) → lent bs ss ys xs ≡ lineAfter gap (callOf piece) lentNow
         → drop next text ≡ after 10 (drop at text)
-        → linesFrom gap (line + 1) (lines (drop next text)) (run bs ss (take (16 * (rows + m)) (take (16 * rows) ops ++ (ys ++ drop (length ops - 16 * rows) (drop (16 * rows) ops)))))
-        ≡ linesFrom gap line (lines (drop at text)) (run bytes stamps (take (16 * rows) ops))
+        → linesFrom gap (line + 1) (lines (drop next text)) (run bs ss (take (16 * (rows + m)) (cameBack ops rows ys)))
+        ≡ linesFrom gap line (lines (drop at text)) stateNow
     turn-goes line next bs ss ys xs f q =
-        let l = before 10 (drop at text) in
-        let slices = lent bytes stamps (free ops rows) accesses in
-        let g : lent bs ss ys xs ≡ lineAfter gap (callOf l) slices =
-        f ∙ ap (λ (x : List ℕ). lineAfter gap (callOf x) slices) (t .line ∙ ap (before 10) (rest-is text at)) in
+        let left = after 10 (drop at text) in
+        let g : lent bs ss ys xs ≡ lineAfter gap (callOf (before 10 (drop at text))) lentNow =
+        f ∙ ap (λ (x : List ℕ). lineAfter gap (callOf x) lentNow) piece-is in
+        let came =
+        line-goes gap line bytes stamps (soFar ops rows) (free ops rows) accesses room-left (t .accesses-room) m _ (here (Rows m) e)
+        (lines left) in
         ap (λ (x : List ℕ). linesFrom gap (line + 1) (lines (drop next text)) (run bs ss x)) (joined ys)
-        ∙ ap (λ (x : List ℕ). linesFrom gap (line + 1) (lines x) (run bs ss (take (16 * rows) ops ++ take (16 * m) ys))) q
-        ∙ ap (λ (x : Lent). linesFrom gap (line + 1) (lines (after 10 (drop at text))) (run (x .bytes) (x .stamps) (take (16 * rows) ops ++ take (16 * m) (x .ops)))) g
-        ∙ sym
-        (ap (λ (ls : List (List ℕ)). linesFrom gap line ls (run bytes stamps (take (16 * rows) ops))) (lines-at text at (t .more))
-        ∙ line-goes gap line bytes stamps (take (16 * rows) ops) (free ops rows) accesses room-left (t .accesses-room) m l (here (Rows m) e) (lines (after 10 (drop at text))))
+        ∙ ap (λ (x : List ℕ). linesFrom gap (line + 1) (lines x) (run bs ss (soFar ops rows ++ take (16 * m) ys))) q
+        ∙ ap
+        (λ (x : Lent). linesFrom gap (line + 1) (lines left) (run (x .bytes) (x .stamps) (soFar ops rows ++ take (16 * m) (x .ops))))
+        g
+        ∙ sym (first-left line ∙ came)
 
 -- no line is left
-pub turns-end : (gap line at : ℕ) (text : List ℕ) (s : Run) → length text ≤ at → done (s .records) ≡ linesFrom gap line (lines (drop at text)) s
+pub turns-end : (gap line at : ℕ) (text : List ℕ) (s : Run) → length text ≤ at
+    → done (s .records) ≡ linesFrom gap line (lines (drop at text)) s
 unfolding linesFrom lines
 turns-end gap line at text s h = rw (drop-of-length-le text h)

@@ -33,7 +33,8 @@ number-below : (l : List ℕ) (v : ℕ) → numberOf l ≡ Number v → v < 2 ^ 
 unfolding numberOf isNumber
 number-below l v h = go (leb 1 (length l)) (leb (length l) 20) (allDigits l) (ltb (decimalFrom 0 l) TOP) refl h
   where
-    go : (a b c d : Bool) → ltb (decimalFrom 0 l) TOP ≡ d → cond (a && (b && (c && d))) (Number (decimalFrom 0 l)) Bad ≡ Number v → v < 2 ^ 64
+    go : (a b c d : Bool) → ltb (decimalFrom 0 l) TOP ≡ d → cond (a && (b && (c && d))) (Number (decimalFrom 0 l)) Bad ≡ Number v
+        → v < 2 ^ 64
     go false b c d e h = let z : _≡_ {A = ℕ} 0 1 = cc in absurd (omega arith)
     go true false c d e h = let z : _≡_ {A = ℕ} 0 1 = cc in absurd (omega arith)
     go true true false d e h = let z : _≡_ {A = ℕ} 0 1 = cc in absurd (omega arith)
@@ -53,7 +54,8 @@ module _ (l : List ℕ) (kind : Functionality) (stamp src dst count : ℕ) where
       → numberOf (before 9 (after 9 (after 9 l))) ≡ b
       → numberOf (before 9 (after 9 (after 9 (after 9 l)))) ≡ c
       → numberOf (after 9 (after 9 (after 9 (after 9 l)))) ≡ d
-      → withKind w (λ k. withNumber a (λ t. withNumber b (λ s. withNumber c (λ e. withNumber d (λ n. Call k t s e n))))) ≡ Call kind stamp src dst count
+      → withKind w (λ k. withNumber a (λ t. withNumber b (λ s. withNumber c (λ e. withNumber d (λ n. Call k t s e n)))))
+      ≡ Call kind stamp src dst count
       → Below stamp src dst count
   below-at Unknown a b c d ea eb ec ed h = let z : _≡_ {A = ℕ} 0 1 = cc in absurd (omega arith)
   below-at (Known k) Bad b c d ea eb ec ed h = let z : _≡_ {A = ℕ} 0 1 = cc in absurd (omega arith)

@@ -1,7 +1,8 @@
 -- The call lines in turn. Document 01: "window 1,024 zero cells, shared by the calls in turn", "A refusal of the expansion is passed up
 -- unchanged", "a line of another form .. is refused so with 10, a call that takes the live rows past 32 with 9; the lowest such line is
 -- named". Assumes nothing.
-use Prim.Native.Nat.{ℕ, _+_, _-_, _*_}
+use mathlib.Core.Path.{_≡_}
+use Prim.Native.Nat.{ℕ, _+_, _-_, _*_, _≤_, _<_}
 use mathlib.Core.Bool.{cond}
 use mathlib.Core.List.{List, [], _∷_, _++_, flatMap}
 use lib.Dec.{eqb}
@@ -12,7 +13,7 @@ use Rattle.copy_row.specs.Calls as calls
 use Rattle.copy_row.specs.Trace.{OP-WIDTH}
 use Rattle.access.specs.Access.{ACCESS-WIDTH}
 use Rattle.window.specs.Window.{windowOf}
-use Rattle.expansion.specs.Refusals.{expansionAnswer, expansionNumbers}
+use Rattle.expansion.specs.Refusals.{opCount, expansionAnswer, expansionNumbers}
 use Rattle.expansion.specs.Expansion.{callWith, callOps, callBytes, callStamps}
 use Rattle.line_text.specs.Lines.{callOf}
 use Rattle.line_text.specs.declared.Line.{Line}
@@ -69,6 +70,13 @@ unfoldable pub linesFrom : ℕ → ℕ → List (List ℕ) → Run → Ending
 linesFrom gap line [] s = done (s .records)
 linesFrom gap line (l ∷ ls) s =
     onLine (callOf l) line (λ c. onAnswer (answered gap c s) line (linesFrom gap (line + 1) ls (ranOf c s)))
+
+-- 9 is for live rows past 32, and for nothing else: where the calls so far have `rows` rows, a call that is refused with 9 would take them
+-- past 32, and one that is accepted does not
+abbrev pub NineIsRows : Type 0
+NineIsRows =
+    (gap rows : ℕ) (c : calls.Call) (s : Run) → length (s .records) ≡ OP-WIDTH * rows → rows ≤ 32
+    → (answered gap c s .number ≡ 9 → 32 < rows + opCount c) × (answered gap c s .number ≡ 0 → rows + opCount c ≤ 32)
 
 -- the ending that the code's answer tells of, its buffer of operation records with it
 abbrev pub endingOf : Ran → List ℕ → Ending

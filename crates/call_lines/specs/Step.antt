@@ -17,7 +17,8 @@ stepOf a = cond (eqb (a .number) 0) (Rows (a .value)) (Stop (a .number))
 
 -- the line's answer: the expansion's, and 10 for another form
 abbrev pub lineStep : ℕ → Line → Lent → Step
-lineStep gap (Call kind stamp src dst count) l = stepOf (expansionNumbers (answerFor 65536 gap (callWith kind stamp src dst count) l) .answer)
+lineStep gap (Call kind stamp src dst count) l =
+    stepOf (expansionNumbers (answerFor 65536 gap (callWith kind stamp src dst count) l) .answer)
 lineStep gap Other l = Stop 10
 
 -- the four slices afterwards

@@ -4,10 +4,13 @@ pub mod print;
 pub mod run;
 
 ghost use mathlib.Core.Path.{_≡_};
+ghost use mathlib.Core.Bool.{true};
 ghost use Prim.Native.Nat.{_≤_};
 ghost use lib.ListN.{length};
 ghost use Rattle.records.specs.Lists.{store};
-ghost use Rattle.call_lines.specs.Output.{outputOf};
+ghost use Rattle.call_lines.specs.Run.{NineIsRows};
+ghost use Rattle.call_lines.specs.Output.{outputOf, PrefixDecides, VerdictPasses};
+ghost use Rattle.call_lines.specs.Examples.{Examples};
 use line_text::NEWLINE;
 use line_text::Parsed;
 use line_text::head;
@@ -41,4 +44,12 @@ pub fn answer(input: &[u8], out: &mut [u8; 8192]) -> usize
         return put_refused(out, 0, 7, 1);
     }
     put_calls(out, gap, tail(input, NEWLINE))
+}
+
+// What follows from the definition of the output is its contract: the first bytes decide, the verdict of accepted calls is `passed`, 9 is
+// for rows past 32, and inputs with their outputs.
+pub fn output_laws_hold() -> bool
+    ensures { λ r. ⌜ (r ≡ true) × PrefixDecides × VerdictPasses × NineIsRows × Examples ⌝ }
+{
+    true
 }

@@ -27,8 +27,10 @@ fn run_line(
     ops: &mut [u64],
     accesses: &mut [u64],
 ) -> Step
-    ensures step { λ r. ⌜ r ≡ lineStep gap (callOf (now (text .entry))) (lent (now (bytes .entry)) (now (stamps .entry)) (now (ops .entry)) (now (accesses .entry))) ⌝ }
-    ensures slices { λ _. ⌜ lent (now (bytes .exit)) (now (stamps .exit)) (now (ops .exit)) (now (accesses .exit)) ≡ lineAfter gap (callOf (now (text .entry))) (lent (now (bytes .entry)) (now (stamps .entry)) (now (ops .entry)) (now (accesses .entry))) ⌝ }
+    ensures step { λ r. ⌜ r
+        ≡ lineStep gap (callOf (now (text .entry))) (lent (now (bytes .entry)) (now (stamps .entry)) (now (ops .entry)) (now (accesses .entry))) ⌝ }
+    ensures slices { λ _. ⌜ lent (now (bytes .exit)) (now (stamps .exit)) (now (ops .exit)) (now (accesses .exit))
+        ≡ lineAfter gap (callOf (now (text .entry))) (lent (now (bytes .entry)) (now (stamps .entry)) (now (ops .entry)) (now (accesses .entry))) ⌝ }
 {
     let line = parse_call(text);
     let Line::Call {
@@ -78,7 +80,8 @@ pub fn run_lines(
 ) -> Ran
     requires { ⌜ (length (now ops) ≡ OPS-ROOM) × (length (now accesses) ≡ ACCESSES-ROOM) ⌝ }
     ensures rows { λ r. ⌜ liveRows r ≤ 32 ⌝ }
-    ensures ending { λ r. ⌜ endingOf r (now (ops .exit)) ≡ linesFrom gap 2 (lines (now (text .entry))) (run (now (bytes .entry)) (now (stamps .entry)) []) ⌝ }
+    ensures ending { λ r. ⌜ endingOf r (now (ops .exit))
+        ≡ linesFrom gap 2 (lines (now (text .entry))) (run (now (bytes .entry)) (now (stamps .entry)) []) ⌝ }
 {
     let mut at = 0;
     let mut line = 2;

@@ -1,5 +1,4 @@
 -- `call_lines::print::put_done` meets its contract: the rows' lines, and the verdict's behind them. Assumes nothing.
-use Prim.Native.Nat.{_-_}
 use mathlib.Core.Path.{sym, _∙_}
 use native.Mathlib.Omega.{arith}
 use native.Mathlib.Nat.{zero-add}
@@ -16,8 +15,7 @@ returns c =
     let line = c .before .before .put-verdict .ensures in
     let verdict = c .before .before .before .verdict .ensures in
     let all = then (wrote (rows .0 .0 ∙ sym (zero-add _)) (rows .1)) (wrote (line .0 .0) (line .1)) in
-    written all
-    (done-text _ _ _ verdict) (omega arith)
+    written all (done-text _ _ _ verdict) (omega arith)
 
 pub put-done-spec : {M : Type 1} → statement M
 put-done-spec =

@@ -29,10 +29,12 @@ abbrev μ-loop : tie.MeasureT-loop
     length text - at
 
 loop-holds : tie.Need-loop-holds Inv-loop μ-loop
-loop-holds c = (omega arith, c .before .before .before .before .before .pre .0, c .before .before .before .before .before .pre .1, omega arith, omega arith, refl, refl, refl)
+loop-holds c =
+    let given = c .before .before .before .before .before .pre in
+    (omega arith, given .0, given .1, omega arith, omega arith, refl, refl, refl)
 
-returns : tie.Need-returns Inv-loop μ-loop
-returns c =
+line-refused : tie.Need-returns Inv-loop μ-loop
+line-refused c =
     let at-line = c .before .before .before .before .before .before .before .before .before .before .before in
     let at-head = at-line .before .before .before .before .before in
     let l = at-head .before .before .before .loop in
@@ -87,13 +89,15 @@ loop-again c =
       search needs,
       fits .1,
       omega (arith, fits .0),
-      turn-goes t _ (c .before .before .step2 .given .1) (l .line) (c .next-line .result) _ _ _ _ (at-line .run-line .ensures .1) (c .next-line .ensures .2) ∙ l .inv .5,
+      turn-goes t _ (c .before .before .step2 .given .1) (l .line) (c .next-line .result) _ _ _ _ (at-line .run-line .ensures .1)
+          (c .next-line .ensures .2)
+          ∙ l .inv .5,
       search needs,
       search needs,
     )
 
-returns-2 : tie.Need-returns-2 Inv-loop μ-loop
-returns-2 c =
+all-read : tie.Need-returns-2 Inv-loop μ-loop
+all-read c =
     let l = c .before .loop in
     (omega arith, turns-end _ _ (l .at) _ _ (c .loop-test .left) ∙ l .inv .5)
 
@@ -119,7 +123,7 @@ run-lines-spec =
     (λ c. search needs)
     (λ c. search needs)
     (λ c. search needs)
-    returns
+    line-refused
     (λ c. search needs)
     add-rows
     (λ c. search needs)
@@ -130,4 +134,4 @@ run-lines-spec =
     (λ c. search needs)
     (λ c. search needs)
     (λ c. search needs)
-    returns-2)
+    all-read)
