@@ -1,0 +1,10 @@
+pub mod OneLine
+pub mod Accepted
+pub mod Turns
+pub mod Printed
+pub mod Lengths
+pub mod Prefix
+pub mod Examples
+pub mod Typed
+pub mod Passes
+pub mod Nine

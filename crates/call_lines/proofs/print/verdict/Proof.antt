@@ -1,0 +1,47 @@
+-- `call_lines::print::verdict` meets its contract: the rows that were made fit into the table, and just these are checked. Assumes nothing.
+use mathlib.Core.Path.{_≡_, ap, _∙_}
+use native.Mathlib.Omega.{arith}
+use Rattle.answer.specs.declared.Answer.{Answer}
+use Rattle.call_lines.proofs.Printed.{table-fits, verdict-is}
+use borrow.Author.Needs.{needs}
+use Rattle.call_lines.proofs.print.verdict.Statement.{statement}
+use Rattle.call_lines.proofs.print.verdict.Tie as tie
+
+-- how many rows were made
+made-rows : {n a b : Answer} → n ≡ a → a ≡ b → n .value ≡ b .value
+made-rows e f = ap (λ (x : Answer). x .value) (e ∙ f)
+
+product-fits : tie.Need-mul-chain-check
+product-fits c =
+    let at-made = c .before .before in
+    let rows = made-rows (c .numbers .ensures) (at-made .generate-copy-trace .ensures .0) in
+    omega (arith, rows, table-fits (at-made .before .before .before .args .ops .now) 1312)
+
+part-fits : tie.Need-part-chain-check-end
+part-fits c =
+    let at-made = c .before .before .before in
+    let rows = made-rows (c .before .numbers .ensures) (at-made .generate-copy-trace .ensures .0) in
+    omega (arith, rows, table-fits (at-made .before .before .before .args .ops .now) 1312)
+
+returns : tie.Need-returns
+returns c =
+    let at-numbers = c .before .before .before .before in
+    let made = at-numbers .before .before .generate-copy-trace .ensures in
+    c .chain-numbers .ensures
+    ∙ c .before .chain-check .ensures
+    ∙ verdict-is _ _ _ _ (made-rows (at-numbers .numbers .ensures) (made .0)) (made .1)
+
+pub verdict-spec : {M : Type 1} → statement M
+verdict-spec =
+    tie.close
+    (tie.spec
+    (λ c. search needs)
+    (λ c κs. search needs)
+    (λ c κs. search needs)
+    product-fits
+    (λ c. search needs)
+    (λ c. search needs)
+    part-fits
+    (λ c κs. search needs)
+    (λ c κs. search needs)
+    returns)

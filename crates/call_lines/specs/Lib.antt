@@ -1,0 +1,4 @@
+pub mod Step
+pub mod Run
+pub mod Output
+pub mod Examples
