@@ -51,7 +51,7 @@ ranOf c s =
     run (callBytes c (s .bytes)) (callStamps c (windowOf (s .bytes) (s .stamps)))
     (s .records ++ flatMap opRecord (callOps c (s .bytes)))
 
--- how the lines end: every call is accepted, and these are all operation records; or a line is refused with this number
+-- how the lines end: every call is accepted, and these are all operation records; or a refusal, its number and its line
 pub data Ending : Type 0 where
   done : List ℕ → Ending
   refused : ℕ → ℕ → Ending

@@ -27,6 +27,7 @@ fn verdict(gap: u64, ops: &[u64]) -> Answer
     chain_numbers(chain_check(gap, &table[0..41 * rows]))
 }
 
+// The verdict's line: `passed` and the row count. A chain check that refuses, which it never does here, has no line of the input: 0.
 fn put_verdict(out: &mut [u8], at: usize, verdict: Answer) -> usize
     requires { ⌜ at + 50 ≤ length (now out) ⌝ }
     ensures { λ r. ⌜ (r ≡ at + length (verdictText verdict)) × (r ≤ at + 50) ⌝ }
