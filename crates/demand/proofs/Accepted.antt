@@ -13,13 +13,13 @@ use Rattle.copy_row.specs.declared.Functionality.the-variants.{Copy, Set, Write
 use Rattle.copy_meaning.specs.Steps.{All, Words}
 use Rattle.calls.specs.Cuts.{CutCall, cutFrom, opsOf, Fits}
 use Rattle.calls.specs.OpChain.{callsOf}
+use Rattle.expansion_rows.proofs.Lengths.{flatMap-append}
 use Rattle.expansion.specs.Consequences.{cutCall}
 use Rattle.expansion.proofs.Judged.{accepted-zero}
 use Rattle.expansion.proofs.Cut.{cut, fits}
 use Rattle.demand.proofs.AcceptedCalls.{ops-written}
 use Rattle.read_back.specs.ReadBack.{callNumbers}
 use Rattle.demand.specs.Demand.{Try, Typed, callIn, answered, accepted, opsWritten, acceptedOps, acceptedCalls}
-use Rattle.demand.proofs.RowLists.{flatMap-append}
 
 kind-number : (k : Functionality) → kindNumber k ≤ 2
 kind-number Copy = omega arith

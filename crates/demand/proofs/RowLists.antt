@@ -80,11 +80,6 @@ picked-rows test part l =
     flat-listed (λ row. cond (test row) (part row) []) (recordAt COLUMNS l) (length l / COLUMNS)
     ∙ ap (flatMap (λ row. cond (test row) (part row) [])) (sym (rows-listed (length l / COLUMNS) l))
 
-pub flatMap-append : {A : Type 0} (f : A → List ℕ) (xs ys : List A) → flatMap f (xs ++ ys) ≡ flatMap f xs ++ flatMap f ys
-unfolding flatMap
-flatMap-append f [] ys = refl
-flatMap-append f (x ∷ xs) ys = ap (λ t. f x ++ t) (flatMap-append f xs ys) ∙ sym (append-assoc (f x) (flatMap f xs) (flatMap f ys))
-
 -- parts of v numbers each
 pub flatMap-length : {A : Type 0} (v : ℕ) (f : A → List ℕ) (xs : List A) → All (λ (x : A). length (f x) ≡ v) xs
     → length (flatMap f xs) ≡ v * length xs
