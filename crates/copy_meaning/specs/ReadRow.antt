@@ -2,7 +2,7 @@
 use Prim.Native.Nat.{ℕ, _+_, _-_, _*_, _^_, _<_}
 use mathlib.Core.List.{List}
 use Rattle.copy_row.specs.Columns.{at, TIMESTAMP, VALUE, SRC, SRC-INCR, DST, DST-INCR, COUNT, COUNT-DECR, FIRST, END, SINGLE, IS-SET, IS-WRITE}
-use Rattle.copy_row.specs.Calls.{Call, Piece, Op, eightAt}
+use Rattle.copy_row.specs.Calls.{Call, Op, eightAt}
 
 -- two words, four halves from column c on
 pub record TwoWords (row : List ℕ) (c : ℕ) : Type 0 where
