@@ -2,14 +2,13 @@
 // opens the list or follows END; otherwise FIRST 0, the timestamp, IS_SET and IS_WRITE of the row before, and SRC, DST, COUNT equal to
 // that row's SRC_INCR, DST_INCR, COUNT_DECR." Assumes nothing but what each `requires` says.
 ghost use mathlib.Core.Path.{_≡_};
-ghost use mathlib.Core.Bool.{_&&_};
 ghost use Prim.Native.Nat.{_+_, _<_};
 ghost use lib.Dec.{eqb};
 ghost use lib.ListN.{length};
-ghost use Rattle.copy_row.specs.Columns.{at, TIMESTAMP, FIRST, IS-SET, IS-WRITE, COLUMNS};
-ghost use Rattle.copy_meaning.specs.ReadRow.{wordsAt, halvesAt};
-ghost use Rattle.plain_row.specs.Tests.{Fits, TwoWords, FourHalves};
-ghost use Rattle.chain.specs.Link.{Before, closed, linked, same, shown, handedOn};
+ghost use Rattle.copy_row.specs.Columns.{TIMESTAMP, FIRST, COLUMNS};
+ghost use Rattle.copy_meaning.specs.ReadRow.{TwoWords, FourHalves, wordsAt, halvesAt};
+ghost use Rattle.plain_row.specs.Tests.{Fits};
+ghost use Rattle.chain.specs.Link.{closed, linked, same, shown, handedOn};
 ghost use Rattle.chain.specs.Standing.{standing, Stood, isUnended};
 use copy_row::cols;
 use plain_row::row::halves_at;

@@ -14,7 +14,7 @@ use Rattle.copy_residues.specs.Range.{columnLimits}
 use Rattle.copy_residues.specs.Residues.{halvesWord, step}
 use Rattle.copy_meaning.specs.Steps.{All}
 use Rattle.copy_meaning.specs.RowIff.{InRange}
-use Rattle.copy_meaning.specs.ReadRow.{wordsAt, halvesAt}
+use Rattle.copy_meaning.specs.ReadRow.{TwoWords, FourHalves, wordsAt, halvesAt}
 
 -- a list is its numbers one by one, and a row its 41 columns
 abbrev pub upTo : ℕ → (ℕ → ℕ) → List ℕ
@@ -27,17 +27,6 @@ up-to (x ∷ xs) = ap (λ t. x ∷ t) (up-to xs)
 
 pub columns-of : (l : List ℕ) (n : ℕ) → length l ≡ n → l ≡ upTo n (at l)
 columns-of l n wide = subst (λ (n : ℕ). l ≡ upTo n (at l)) wide (up-to l)
-
--- two words, four halves from column c on
-pub record TwoWords (row : List ℕ) (c : ℕ) : Type 0 where
-  pub low : at row c < 2 ^ 32
-  pub high : at row (c + 1) < 2 ^ 32
-
-pub record FourHalves (row : List ℕ) (c : ℕ) : Type 0 where
-  pub first : at row c < 2 ^ 16
-  pub second : at row (c + 1) < 2 ^ 16
-  pub third : at row (c + 2) < 2 ^ 16
-  pub fourth : at row (c + 3) < 2 ^ 16
 
 module _ (row : List ℕ) (range : InRange row) where
   column-below : (c m : ℕ) → c < COLUMNS → getD columnLimits c 0 ≡ m → at row c < m

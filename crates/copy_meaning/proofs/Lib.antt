@@ -8,7 +8,6 @@ pub mod Plain
 pub mod Equations
 pub mod Columns
 pub mod Sums
-pub mod Borrow
 pub mod Flags
 pub mod StepFacts
 pub mod PlainOfZero

@@ -11,12 +11,12 @@ use Rattle.field.proofs.Laws.{add-below, sub-below, mul-below, bit-below, sub-z
 use Rattle.field.proofs.Bits.{bit-of-zero, gate, not-both, implies, bit-mulP, bit-complement}
 use Rattle.copy_row.specs.Columns.{at, VALUE, SRC, SRC-INCR, DST, DST-INCR, COUNT, COUNT-DECR, DST-RES, FIRST, END, SINGLE, IS-SET, IS-WRITE, FIRST-WRITE, MU, MU-COM, MU-COM-WIDE, COLUMNS}
 use Rattle.copy_residues.specs.Residues.{halvesWord, step, incrHigh, decrHigh, resLow, resHigh, gapLow, gapHigh, borrow, impliesMu, oneHot, firstWrite, gatedBit, dstResNonWrite, singleLane, borrowImplies, borrowImpliesZero, endImplies, muComIs, muComWideIs, noWrap, gapNoWrap}
+use Rattle.copy_residues.proofs.CountBorrow.{borrow-is-carry}
 use Rattle.copy_meaning.specs.RowIff.{InRange}
 use Rattle.copy_meaning.specs.ReadRow.{wordsAt, halvesAt}
 use Rattle.copy_meaning.proofs.Check.{range-elements}
 use Rattle.copy_meaning.proofs.Equations.{Equations}
 use Rattle.copy_meaning.proofs.Columns.{src-words, dst-words, count-words, src-halves, dst-halves, count-halves, res-halves, words-below, halves-below, words-of, step-width}
-use Rattle.copy_meaning.proofs.Borrow.{borrow-carry}
 use Rattle.copy_meaning.proofs.Sums.{Sum, incr-sum, decr-sum, res-sum, gap-sum}
 use Rattle.copy_meaning.proofs.Flags.{live-product}
 use Rattle.copy_meaning.proofs.Plain.{Plain, widthAt, emptyAt}
@@ -102,7 +102,7 @@ module _ (gap : ℕ) (row : List ℕ) (g : gap < 2 ^ 32) (range : InRange row) (
 
   -- the borrow
   is-carry : borrow row ≡ decrHigh row
-  is-carry = borrow-carry row (element COUNT (lit< tt)) (element (COUNT + 1) (lit< tt))
+  is-carry = borrow-is-carry row (element COUNT (lit< tt)) (element (COUNT + 1) (lit< tt))
 
   count : Sum (halvesAt row COUNT-DECR) (widthAt row) (wordsAt row COUNT) (borrow row)
   count = rw is-carry (decr-sum row (count-words row range) (count-halves row range) single (e .count-low) (e .count-high))

@@ -15,9 +15,9 @@ use Rattle.copy_row.specs.Columns.{at, TIMESTAMP, VALUE, SRC, SRC-INCR, DST, DS
 use Rattle.copy_row.specs.Calls.{eightAt}
 use Rattle.copy_row.specs.Rows.{bit, dstRes, muCom, rowOf}
 use Rattle.copy_meaning.specs.Steps.{Words, PieceOk, RowStep}
-use Rattle.copy_meaning.specs.ReadRow.{wordsAt, halvesAt, callAt, opAt}
+use Rattle.copy_meaning.specs.ReadRow.{TwoWords, FourHalves, wordsAt, halvesAt, callAt, opAt}
 use Rattle.copy_meaning.specs.RowIff.{InRange}
-use Rattle.copy_meaning.proofs.Columns.{TwoWords, FourHalves, columns-of, stamp-words, src-words, dst-words, count-words, src-halves, dst-halves, count-halves, res-halves, value-bytes, words-below, halves-below}
+use Rattle.copy_meaning.proofs.Columns.{columns-of, stamp-words, src-words, dst-words, count-words, src-halves, dst-halves, count-halves, res-halves, value-bytes, words-below, halves-below}
 use Rattle.copy_meaning.proofs.Flags.{single-test, set-test, write-test, first-write-test, res-test, mu-com-test, wide-test}
 use Rattle.copy_meaning.proofs.StepFacts.{StepFacts, step-of-facts}
 use Rattle.copy_meaning.proofs.Plain.{Plain, widthAt, emptyAt}

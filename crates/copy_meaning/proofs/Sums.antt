@@ -9,8 +9,8 @@ use Rattle.field.specs.Carries.{carryLow, carryHigh}
 use Rattle.field.proofs.Carry.{sum-of-zero, zero-of-sum}
 use Rattle.copy_row.specs.Columns.{at, SRC, DST, COUNT, COUNT-DECR, DST-RES, SINGLE}
 use Rattle.copy_residues.specs.Residues.{halvesWord, step, incrLow, incrHigh, decrLow, decrHigh, resLow, resHigh, gapLow, gapHigh}
-use Rattle.copy_meaning.specs.ReadRow.{wordsAt, halvesAt}
-use Rattle.copy_meaning.proofs.Columns.{TwoWords, FourHalves, words-of, step-width}
+use Rattle.copy_meaning.specs.ReadRow.{TwoWords, FourHalves, wordsAt, halvesAt}
+use Rattle.copy_meaning.proofs.Columns.{words-of, step-width}
 
 -- the words of a, b and s, of which s is to be a + b
 pub record Added (a0 a1 b0 b1 s0 s1 a b s : ℕ) : Type 0 where

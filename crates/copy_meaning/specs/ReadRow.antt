@@ -1,8 +1,19 @@
--- The operation record that is read off a copy row, and the call that the row after it must go on with. Assumes nothing.
-use Prim.Native.Nat.{ℕ, _+_, _-_, _*_, _^_}
+-- The numbers and the operation record that are read off a copy row, and the call that the row after it must go on with. Assumes nothing.
+use Prim.Native.Nat.{ℕ, _+_, _-_, _*_, _^_, _<_}
 use mathlib.Core.List.{List}
 use Rattle.copy_row.specs.Columns.{at, TIMESTAMP, VALUE, SRC, SRC-INCR, DST, DST-INCR, COUNT, COUNT-DECR, FIRST, END, SINGLE, IS-SET, IS-WRITE}
-use Rattle.copy_row.specs.Calls.{Call, Piece, Op, eightAt}
+use Rattle.copy_row.specs.Calls.{Call, Op, eightAt}
+
+-- two words, four halves from column c on
+pub record TwoWords (row : List ℕ) (c : ℕ) : Type 0 where
+  pub low : at row c < 2 ^ 32
+  pub high : at row (c + 1) < 2 ^ 32
+
+pub record FourHalves (row : List ℕ) (c : ℕ) : Type 0 where
+  pub first : at row c < 2 ^ 16
+  pub second : at row (c + 1) < 2 ^ 16
+  pub third : at row (c + 2) < 2 ^ 16
+  pub fourth : at row (c + 3) < 2 ^ 16
 
 -- the number in the two words from column c on
 abbrev pub wordsAt : List ℕ → ℕ → ℕ

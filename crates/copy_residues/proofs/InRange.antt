@@ -23,7 +23,7 @@ abbrev pub out : List ℕ → ℕ → Bool
 out row c = leb (getD columnLimits c 0) (at row c)
 
 -- where no number is too large, every column is an element, also one past the end, which reads as 0
-each-below : (row : List ℕ) → length row ≤ firstLarge row → (c : ℕ) → at row c < p
+pub each-below : (row : List ℕ) → length row ≤ firstLarge row → (c : ℕ) → at row c < p
 unfolding firstLarge
 each-below row h c = below (decLt c (length row))
   where

@@ -1,6 +1,6 @@
-// Internal to the crate: what the residues of a copy row are made of, the carries of its sums and the borrow of its count. Document 01:
-// "c0 = (lo + lo − sum lo) × 2^−32, c1 = (hi + hi + c0 − sum hi) × 2^−32". Each is found at once on the rows of right calls, with no
-// product. Assumes nothing.
+// Internal to the workspace, not open to callers: what the residues of a copy row are made of, the carries of its sums and the borrow of
+// its count. Document 01: "c0 = (lo + lo − sum lo) × 2^−32, c1 = (hi + hi + c0 − sum hi) × 2^−32". Each is found at once on the rows of
+// right calls, with no product. Assumes nothing but what each `requires` says.
 use crate::cells::cell;
 use copy_row::cols;
 use field::element;
@@ -57,7 +57,7 @@ fn carry(v: u64, s: u64) -> u64
 }
 
 // c0 of the low words a and b and the sum's low word s.
-fn carry_low(a: u64, b: u64, s: u64) -> u64
+pub fn carry_low(a: u64, b: u64, s: u64) -> u64
     requires { ⌜ (a < p) × (b < p) × (s < p) ⌝ }
     ensures { λ r. ⌜ Is (carryLow a b s) r ⌝ }
 {
@@ -65,7 +65,7 @@ fn carry_low(a: u64, b: u64, s: u64) -> u64
 }
 
 // c1 of the high words a and b, c0 and the sum's high word s.
-fn carry_high(a: u64, b: u64, c: u64, s: u64) -> u64
+pub fn carry_high(a: u64, b: u64, c: u64, s: u64) -> u64
     requires { ⌜ (a < p) × (b < p) × (c < p) × (s < p) ⌝ }
     ensures { λ r. ⌜ Is (carryHigh a b c s) r ⌝ }
 {

@@ -6,18 +6,20 @@ use mathlib.Core.List.{List, [], _∷_, _++_, map, flatMap}
 use Prim.Native.Nat.{ℕ, _≤_}
 use native.Mathlib.Omega.{arith}
 use borrow.Author.Tests.{eqb-true}
-use lib.Dec.{eqb, lit<}
+use lib.Dec.{eqb}
 use Rattle.copy_row.specs.Calls.{opRecord, kindNumber}
 use Rattle.copy_row.specs.declared.Functionality.{Functionality}
 use Rattle.copy_row.specs.declared.Functionality.the-variants.{Copy, Set, Write}
 use Rattle.copy_meaning.specs.Steps.{All, Words}
 use Rattle.calls.specs.Cuts.{CutCall, cutFrom, opsOf, Fits}
 use Rattle.calls.specs.OpChain.{callsOf}
-use Rattle.demand.specs.AcceptedCalls.{cutOf}
-use Rattle.demand.proofs.AcceptedCalls.{accepted-sound, ops-are-cut, cut-fits, ops-written}
+use Rattle.expansion_rows.proofs.Lengths.{flatMap-append}
+use Rattle.expansion.specs.Consequences.{cutCall}
+use Rattle.expansion.proofs.Judged.{accepted-zero}
+use Rattle.expansion.proofs.Cut.{cut, fits}
+use Rattle.demand.proofs.AcceptedCalls.{ops-written}
 use Rattle.read_back.specs.ReadBack.{callNumbers}
 use Rattle.demand.specs.Demand.{Try, Typed, callIn, answered, accepted, opsWritten, acceptedOps, acceptedCalls}
-use Rattle.demand.proofs.RowLists.{flatMap-append}
 
 kind-number : (k : Functionality) → kindNumber k ≤ 2
 kind-number Copy = omega arith
@@ -29,20 +31,18 @@ typed-words t h = record { kind = kind-number (t .kind); stamp = h .stamp; src =
 
 -- the cut call of an accepted one
 abbrev pub cutTry : Try → CutCall
-cutTry t = cutOf (callIn t) (t .slices .bytes)
+cutTry t = cutCall (callIn t) (t .slices .bytes)
 
 -- One accepted call
 
 module _ (gap : ℕ) (t : Try) (typed : Typed t) (e : answered gap t .number ≡ 0) where
   pub try-fits : Fits gap (cutTry t)
-  try-fits =
-      cut-fits gap (callIn t) (t .slices .bytes) (typed .bytes)
-      (accepted-sound 65536 gap (callIn t) (t .slices) (lit< tt) (typed-words t typed) e)
+  try-fits = fits gap (callIn t) (t .slices) (typed-words t typed) (typed .bytes) (accepted-zero 65536 gap (callIn t) _ _ _ _ e)
 
   -- what it wrote are the records of its cut
   pub try-wrote : opsWritten gap t ≡ flatMap opRecord (cutFrom (callIn t) 1 (cutTry t .pieces))
   try-wrote =
-      ops-written 65536 gap (callIn t) (t .slices) e ∙ ap (flatMap opRecord) (ops-are-cut (callIn t) (t .slices .bytes) (typed .bytes))
+      ops-written 65536 gap (callIn t) (t .slices) e ∙ ap (flatMap opRecord) (cut (callIn t) (t .slices .bytes) (typed .bytes))
 
 -- All accepted ones
 
@@ -57,7 +57,7 @@ module _ (gap : ℕ) where
       go false e later = later
 
   pub tries-wrote : (tries : List Try) → All Typed tries → acceptedOps gap tries ≡ flatMap opRecord (opsOf (map cutTry (accepted gap tries)))
-  unfolding flatMap cutOf
+  unfolding flatMap
   tries-wrote [] typed = refl
   tries-wrote (t ∷ tries) typed = go (eqb (answered gap t .number) 0) refl (tries-wrote tries (typed .1))
     where
@@ -71,7 +71,7 @@ module _ (gap : ℕ) where
       go false e later = later
 
   pub tries-handed : (tries : List Try) → acceptedCalls gap tries ≡ flatMap callNumbers (callsOf (map cutTry (accepted gap tries)))
-  unfolding flatMap cutOf
+  unfolding flatMap
   tries-handed tries = go (accepted gap tries)
     where
       go : (ts : List Try) → flatMap (λ t. callNumbers (callIn t)) ts ≡ flatMap callNumbers (callsOf (map cutTry ts))

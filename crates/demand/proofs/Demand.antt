@@ -18,8 +18,8 @@ use Rattle.chain.specs.declared.ChainAnswer.the-variants.{Passed, GapTooLarge}
 use Rattle.calls.specs.Cuts.{CutCall, opsOf, Fits}
 use Rattle.calls.specs.OpChain.{callsOf}
 use Rattle.read_back.specs.ReadBack.{callNumbers}
+use Rattle.read_back.proofs.Passed.{Accepted}
 use Rattle.demand.specs.Demand.{Passes, ReadsBack, Try, Typed, accepted, acceptedOps, acceptedCalls, Demand3}
-use Rattle.demand.proofs.Verdict.{Accepted}
 use Rattle.demand.proofs.Whole.{passes-calls, calls-pass, calls-passes}
 use Rattle.demand.proofs.ReadBack.{reads-back, only-nine}
 use Rattle.demand.proofs.Alone.{alone}

@@ -22,7 +22,7 @@ use Rattle.copy_row.specs.Calls.{Op, opRecord}
 use Rattle.copy_row.specs.Trace.{OP-WIDTH, goodOp, copyAnswer}
 use Rattle.copy_row.proofs.Ops.{op-record-length, OpWithin, within-good}
 use Rattle.copy_meaning.specs.Steps.{All, empty, ends, more, LiveStep}
-use Rattle.demand.proofs.RowLists.{flatMap-length}
+use Rattle.expansion_rows.proofs.Lengths.{flatMap-length}
 
 -- Fields among their values
 

@@ -27,11 +27,12 @@ use Rattle.calls.specs.OpChain.{ifFirst, firsts, callsOf}
 use Rattle.calls.proofs.Cuts.{all-have-rows}
 use Rattle.calls.proofs.Chained.{chain}
 use Rattle.calls.proofs.Group.{firsts-are}
+use Rattle.expansion_rows.proofs.Lengths.{flatMap-append}
 use Rattle.read_back.specs.ReadBack.{CALL-WIDTH, callNumbers, rowAt, rowsIn, liveAt, opensAt, opsCount, callsCount, readOps, readCalls, roomAnswer, onChain, readBackAnswer, opsAfter, callsAfter, readBackNumbers}
 use Rattle.read_back.specs.declared.ReadBackAnswer.the-variants.{Read, BufferShort}
 use Rattle.demand.specs.Demand.{Passes, WholeCalls, ReadsBack}
 use Rattle.demand.proofs.MadeRows.{row-mu, row-marks}
-use Rattle.demand.proofs.RowLists.{picked-rows, flatMap-append}
+use Rattle.demand.proofs.RowLists.{picked-rows}
 use Rattle.demand.proofs.Whole.{steps, Still, all-still, calls-rows, calls-pass}
 
 -- what one row gives

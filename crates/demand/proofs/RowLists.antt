@@ -1,17 +1,17 @@
 -- The rows of a flat list, one by one: by `rowsFrom`, by their numbers, and parts joined over them. Assumes nothing.
-use mathlib.Core.Path.{_≡_, refl, sym, ap, ap₂, _∙_}
+use mathlib.Core.Path.{_≡_, refl, sym, ap, _∙_}
 use mathlib.Core.Bool.{Bool, cond}
 use mathlib.Core.List.{List, [], _∷_, _++_, append-assoc, append-nil, flatMap}
 use Prim.Native.Nat.{ℕ, zero, suc, _+_, _*_, _/_, _%_, _≤_, _<_}
-use native.Mathlib.Nat.{mul-suc, mul-zero}
 use native.Mathlib.Omega.{arith}
-use lib.ListN.{length, take, drop, length-append, length-drop}
+use lib.ListN.{length, take, drop, length-drop}
 use lib.Seq.{drop-drop, take-take, length-take-le}
 use Rattle.records.specs.Lists.{flat, picked}
 use Rattle.records.specs.Records.{recordAt}
 use Rattle.copy_row.specs.Columns.{COLUMNS}
 use Rattle.copy_meaning.specs.Steps.{All}
 use Rattle.chain.specs.Chain.{rowsFrom, rowsOf}
+pub use Rattle.expansion_rows.proofs.Lengths.{flatMap-length}
 
 -- the list of g 0, g 1, .. g (n - 1)
 unfoldable pub listed : {A : Type 0} → (ℕ → A) → ℕ → List A
@@ -79,18 +79,3 @@ unfolding picked
 picked-rows test part l =
     flat-listed (λ row. cond (test row) (part row) []) (recordAt COLUMNS l) (length l / COLUMNS)
     ∙ ap (flatMap (λ row. cond (test row) (part row) [])) (sym (rows-listed (length l / COLUMNS) l))
-
-pub flatMap-append : {A : Type 0} (f : A → List ℕ) (xs ys : List A) → flatMap f (xs ++ ys) ≡ flatMap f xs ++ flatMap f ys
-unfolding flatMap
-flatMap-append f [] ys = refl
-flatMap-append f (x ∷ xs) ys = ap (λ t. f x ++ t) (flatMap-append f xs ys) ∙ sym (append-assoc (f x) (flatMap f xs) (flatMap f ys))
-
--- parts of v numbers each
-pub flatMap-length : {A : Type 0} (v : ℕ) (f : A → List ℕ) (xs : List A) → All (λ (x : A). length (f x) ≡ v) xs
-    → length (flatMap f xs) ≡ v * length xs
-unfolding flatMap
-flatMap-length v f [] each = sym (mul-zero v)
-flatMap-length v f (x ∷ xs) each =
-    length-append (f x) (flatMap f xs)
-    ∙ ap₂ (λ (a b : ℕ). a + b) (each .0) (flatMap-length v f xs (each .1))
-    ∙ omega (arith, mul-suc v (length xs))

@@ -15,17 +15,16 @@ use Rattle.copy_row.specs.Columns.{at, END, MU, COLUMNS}
 use Rattle.copy_row.specs.Calls.{Call, Op}
 use Rattle.copy_row.specs.Rows.{bit, wrapped, rowOf, tableRow}
 use Rattle.copy_residues.specs.RowCheck.{rowFault}
-use Rattle.copy_residues.specs.declared.RowFault.{RowFault}
-use Rattle.copy_residues.specs.declared.RowFault.the-variants.{Fine, NotElement, OutOfRange, NotZero}
+use Rattle.copy_residues.specs.declared.RowFault.the-variants.{Fine}
 use Rattle.copy_meaning.specs.Steps.{All, empty, ends, more, LiveStep, RowStep}
 use Rattle.copy_meaning.specs.ReadRow.{opAt, nextAt}
 use Rattle.copy_meaning.proofs.RowIff.{row-iff, live-passes}
 use Rattle.copy_meaning.proofs.ReadBack.{call-back, next-back}
 use Rattle.chain.specs.Link.{Before, closed, unended, dead, same, shown, handedOn, liveLinked, deadLinked, linked, before}
-use Rattle.chain.specs.Chain.{onFault, chainFrom, chainNumbers}
-use Rattle.chain.specs.declared.ChainAnswer.{ChainAnswer}
+use Rattle.chain.specs.Chain.{chainFrom}
 use Rattle.chain.specs.declared.ChainAnswer.the-variants.{Passed, LinkBroken}
 use Rattle.calls.specs.OpChain.{unlessEnd, next, Opens, Chain}
+use Rattle.read_back.proofs.Passed.{Accepted, fault-accepted, link-accepted}
 use Rattle.demand.proofs.MadeRows.{row-mu}
 
 -- Tests of lists
@@ -50,21 +49,6 @@ same-refl (a ∷ xs) = rw (eq-eqb a a refl) (same-refl xs)
 
 pub eq-same : (a b : List ℕ) → a ≡ b → same a b ≡ true
 eq-same a b e = rw e (same-refl b)
-
--- Nothing refused
-
-abbrev pub Accepted : ChainAnswer → Type 0
-Accepted v = chainNumbers v .number ≡ 0
-
-fault-accepted : (f : RowFault) (k : ℕ) (v : ChainAnswer) → Accepted (onFault f k v) → (f ≡ Fine) × Accepted v
-fault-accepted Fine k v e = (refl, e)
-fault-accepted NotElement k v e = absurd (omega arith)
-fault-accepted OutOfRange k v e = absurd (omega arith)
-fault-accepted (NotZero i) k v e = absurd (omega arith)
-
-link-accepted : (t : Bool) (k : ℕ) (v : ChainAnswer) → Accepted (cond t v (LinkBroken k)) → (t ≡ true) × Accepted v
-link-accepted true k v e = (refl, e)
-link-accepted false k v e = absurd (omega arith)
 
 -- What a row that passes says
 

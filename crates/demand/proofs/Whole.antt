@@ -26,9 +26,10 @@ use Rattle.calls.specs.Cuts.{CutCall, opsOf, Fits}
 use Rattle.calls.specs.OpChain.{next, Chain}
 use Rattle.calls.proofs.Parse.{parse}
 use Rattle.calls.proofs.Chained.{chain}
+use Rattle.read_back.proofs.Passed.{Accepted}
 use Rattle.demand.specs.Demand.{Passes, liveRows, DeadRow, Each, WholeCalls}
 use Rattle.demand.proofs.MadeRows.{row-mu}
-use Rattle.demand.proofs.Verdict.{Accepted, DeadFine, accepted-good, good-passes}
+use Rattle.demand.proofs.Verdict.{DeadFine, accepted-good, good-passes}
 use Rattle.demand.proofs.RowLists.{rows-length, rows-of-wide}
 
 -- every record of a chain is a live step

@@ -1,3 +1,2 @@
-pub mod AcceptedCalls
 pub mod Demand
 pub mod Instances

@@ -1,7 +1,7 @@
 -- The starred examples of document 01, each computed over the definitions that the contracts cite. One theorem collects them:
 -- `StarredExamples`, proved in proofs/. Assumes nothing.
 use mathlib.Core.Path.{_≡_}
-use Prim.Native.Nat.{ℕ, _-_, _^_}
+use Prim.Native.Nat.{_-_, _^_}
 use Rattle.field.specs.Field.{p, mulP}
 use Rattle.records.specs.RowCount.{rowCount}
 use Rattle.copy_residues.specs.Examples.{ResidueExamples}

@@ -29,7 +29,7 @@ use Rattle.expansion.proofs.Moved.{some-ops}
 
 -- The two kinds of calls
 
-empty-ops : (c : Call) (bytes : List ℕ) → c .count ≡ 0 → callOps c bytes ≡ emptyOp c ∷ []
+pub empty-ops : (c : Call) (bytes : List ℕ) → c .count ≡ 0 → callOps c bytes ≡ emptyOp c ∷ []
 unfolding callOps rowOps
 empty-ops c bytes none = ap (λ (rs : List Row). orEmpty c (rowOps rs bytes)) (rows-none c 1 none)
 
@@ -97,7 +97,7 @@ fits gap c l words b taken =
 
 -- Counts
 
-ops-count : (c : Call) (bytes : List ℕ) → length (callOps c bytes) ≡ opCount c
+pub ops-count : (c : Call) (bytes : List ℕ) → length (callOps c bytes) ≡ opCount c
 ops-count c bytes = step (c .count) refl
   where
     step : (n : ℕ) → c .count ≡ n → length (callOps c bytes) ≡ opCount c

@@ -162,3 +162,22 @@ module _ (limit gap : ℕ) (c : Call) (cells stamped opsRoom accessesRoom ops ac
         ops-fit = ltb-false opsRoom (OP-WIDTH * opCount c) (room .0);
         accesses-fit = ltb-false accessesRoom (ACCESS-WIDTH * accessCount c) (room .1);
       }
+
+-- an answer of number 0 counts the call's own records
+pub accepted-zero : (limit gap : ℕ) (c : Call) (cells stamped opsRoom accessesRoom : ℕ)
+    → numberOf (expansionAnswer limit gap c cells stamped opsRoom accessesRoom) ≡ 0
+    → expansionAnswer limit gap c cells stamped opsRoom accessesRoom ≡ Expanded (opCount c) (accessCount c)
+accepted-zero limit gap c cells stamped opsRoom accessesRoom =
+    go (expansionAnswer limit gap c cells stamped opsRoom accessesRoom) refl
+  where
+    go : (a : ExpansionAnswer) → expansionAnswer limit gap c cells stamped opsRoom accessesRoom ≡ a → numberOf a ≡ 0
+        → a ≡ Expanded (opCount c) (accessCount c)
+    go (Expanded ops accesses) same e =
+        let k = accepted-is limit gap c cells stamped opsRoom accessesRoom ops accesses same in cc (k .ops-are, k .accesses-are)
+    go GapTooLarge same e = absurd (omega arith)
+    go BadWindow same e = absurd (omega arith)
+    go LastStamp same e = absurd (omega arith)
+    go NotGapApart same e = absurd (omega arith)
+    go PastIndex same e = absurd (omega arith)
+    go OutsideWindow same e = absurd (omega arith)
+    go BufferShort same e = absurd (omega arith)

@@ -21,10 +21,10 @@ use Rattle.window.proofs.Window.{length-cells}
 use Rattle.expansion_rows.specs.Rows.{copyRowWidth, Row, rowsOf}
 use Rattle.expansion_rows.specs.Turns.{inverted, readStamp, writeStamp, valueAt, turnAccesses, rowOps, passBytes, passStamps, passAccesses}
 use Rattle.expansion_rows.specs.Held.{heldAllBytes, heldAllStamps, heldAccesses, opsFrom}
-use Rattle.expansion_rows.specs.Inside.{CallInside, PassInside, HeldInside}
+use Rattle.expansion_rows.specs.Inside.{Bytes, CallInside, PassInside, HeldInside}
 use Rattle.expansion_rows.proofs.RowList.{rows-none, rows-next}
-use Rattle.expansion_rows.proofs.Lengths.{flatMap-append, row-ops-length, pass-bytes-length, pass-stamps-length, pass-accesses-length}
-use Rattle.expansion_rows.proofs.HeldOps.{Bytes, row-ops-eight, ops-back, flat-ops-length, each-op, copy-held}
+use Rattle.expansion_rows.proofs.Lengths.{flatMap-append, flatMap-length, row-ops-length, pass-bytes-length, pass-stamps-length, pass-accesses-length}
+use Rattle.expansion_rows.proofs.HeldOps.{row-ops-eight, ops-back, flat-ops-length, each-op, copy-held}
 use Rattle.expansion.specs.Refusals.{opCount, accessCount}
 use Rattle.expansion.specs.Expansion.{emptyOp, orEmpty, callOps, deferred, callBytes, callStamps, callAccesses, Lent, lent, expanded}
 use Rattle.expansion.proofs.Judged.{Accepted, dest-fits}
@@ -54,11 +54,6 @@ pass-wide : (rs : List Row) (m : Window) → All Wide (passAccesses rs m)
 unfolding passAccesses
 pass-wide [] m = tt
 pass-wide (r ∷ rs) m = all-append Wide (turnAccesses (r .call) (r .width) m) _ (turn-wide (r .call) (r .width) m) (pass-wide rs _)
-
-flat-wide : (xs : List Access) → All Wide xs → length (flatMap accessRecord xs) ≡ 29 * length xs
-unfolding flatMap
-flat-wide [] h = refl
-flat-wide (x ∷ xs) h = length-append (accessRecord x) (flatMap accessRecord xs) ∙ omega (arith, h .0, flat-wide xs (h .1))
 
 -- Room
 
@@ -199,7 +194,7 @@ module _
   expanded-copy b₂ s₂ a₂ fb fs fa =
       let reads = passAccesses (rowsOf c) (windowOf b s) in
       let m₁ = windowOf (passBytes (rowsOf c) b) (passStamps (rowsOf c) s) in
-      let n : length (flatMap accessRecord reads) ≡ 29 * length reads = flat-wide reads (pass-wide (rowsOf c) (windowOf b s)) in
+      let n : length (flatMap accessRecord reads) ≡ 29 * length reads = flatMap-length 29 accessRecord reads (pass-wide (rowsOf c) (windowOf b s)) in
       let reads-count : length reads ≡ length (rowsOf c) = pass-accesses-length c 1 (windowOf b s) ∙ rw (ne-eqb (c .kind) 1 (λ q. omega arith)) in
       let z : 29 * rows ≡ 0 + length (flatMap accessRecord reads) = omega (arith, n, reads-count, rows-are, rows-count c some) in
       let accesses-are : a₂ ≡ store a 0 (flatMap accessRecord (reads ++ heldAccesses os m₁)) =

@@ -3,16 +3,12 @@
 use mathlib.Core.Path.{_≡_}
 use mathlib.Core.List.{List, [], _∷_}
 use Prim.Native.Nat.{ℕ, _<_}
-use lib.ListN.{getD}
 use Rattle.copy_row.specs.Calls.{Call, Piece}
 use Rattle.copy_meaning.specs.Steps.{All, PieceOk}
 use Rattle.calls.specs.Cuts.{cutFrom, Cut}
 use Rattle.expansion_rows.specs.Rows.{Row, rowsOf}
 use Rattle.expansion_rows.specs.Turns.{valueAt, turnBytes, rowOps}
-
--- every number of a window's bytes is a byte
-abbrev pub Bytes : List ℕ → Type 0
-Bytes l = (i : ℕ) → getD l i 0 < 256
+pub use Rattle.expansion_rows.specs.Inside.{Bytes}
 
 -- the pieces of rows, turn after turn
 unfoldable pub piecesOf : List Row → List ℕ → List Piece

@@ -4,7 +4,6 @@ use Prim.Native.Nat.{ℕ}
 use mathlib.Core.Bool.{cond}
 use mathlib.Core.List.{List, [], _∷_}
 use lib.Dec.{eqb, ltb}
-use Rattle.copy_row.specs.Calls.{Call}
 use Rattle.expansion.specs.Refusals.{ExpansionNumbers, expansionNumbers, refusedWith}
 use Rattle.expansion.specs.Expansion.{Lent, callWith, answerFor, lentAfter}
 use Rattle.register_numbers.specs.RegisterNumbers.{kindOf}

@@ -5,7 +5,7 @@ use mathlib.Core.List.{List, [], _∷_, _++_, flatMap, append-assoc}
 use Prim.Native.Nat.{ℕ, zero, suc, _+_, _*_, _≤_, _<_}
 use native.Mathlib.Nat.{add-zero}
 use native.Mathlib.Omega.{arith}
-use lib.ListN.{length, take, drop, getD, replicate, length-append}
+use lib.ListN.{length, take, drop, replicate, length-append}
 use lib.Seq.{take-at, drop-at, getD-drop}
 use Rattle.records.specs.Lists.{store}
 use Rattle.records.specs.Records.{recordAt}
@@ -20,16 +20,12 @@ use Rattle.calls.specs.Cuts.{rest}
 use Rattle.expansion_rows.specs.Rows.{copyRowWidth, Row, rowOf, rowsFrom}
 use Rattle.expansion_rows.specs.Turns.{turnBytes, rowOp, rowOps}
 use Rattle.expansion_rows.specs.Held.{opsFrom}
-use Rattle.expansion_rows.specs.Inside.{CallInside, HeldInside}
+use Rattle.expansion_rows.specs.Inside.{Bytes, CallInside, HeldInside}
 use Rattle.expansion_rows.proofs.Width.{width-eight, width-within}
 use Rattle.expansion_rows.proofs.RowList.{rows-ind}
 use Rattle.expansion_rows.proofs.OneTurn.{read-bytes}
 
 -- Bytes
-
--- every number of l is a byte
-abbrev pub Bytes : List ℕ → Type 0
-Bytes l = (i : ℕ) → getD l i 0 < 256
 
 bytes-take : (n : ℕ) (l : List ℕ) → Bytes l → Bytes (take n l)
 bytes-take zero l h i = omega arith

@@ -1,17 +1,19 @@
 -- Lengths: records joined, windows after a turn, accesses of a turn. Assumes nothing.
-use mathlib.Core.Path.{_≡_, refl, sym, ap, _∙_}
+use mathlib.Core.Path.{_≡_, refl, sym, ap, ap₂, _∙_}
 use mathlib.Core.Bool.{Bool, true, false, cond}
-use mathlib.Core.List.{List, [], _∷_, _++_, flatMap, append-assoc, append-nil}
+use mathlib.Core.List.{List, [], _∷_, _++_, flatMap, append-assoc}
 use Prim.Native.Nat.{ℕ, suc, _+_, _*_}
+use native.Mathlib.Nat.{mul-suc, mul-zero}
 use native.Mathlib.Omega.{arith}
 use lib.ListN.{length, length-append}
-use Rattle.copy_row.specs.Calls.{Call, Op, opRecord}
+use Rattle.copy_row.specs.Calls.{Call, Op}
 use Rattle.copy_row.specs.Rows.{bit}
+use Rattle.copy_meaning.specs.Steps.{All}
 use Rattle.access.specs.Access.{Access}
 use Rattle.window.specs.Window.{Window, windowOf, writeBytes, writeStamps, readAccess, writeAccess}
-use Rattle.window.proofs.Window.{length-cells, length-bytes, length-stamps}
+use Rattle.window.proofs.Window.{length-bytes, length-stamps}
 use Rattle.expansion_rows.specs.Rows.{copyRowWidth, Row, rowsFrom}
-use Rattle.expansion_rows.specs.Turns.{inverted, readStamp, writeStamp, valueAt, turnBytes, turnStamps, turnAccesses, rowOp, rowOps, passBytes, passStamps, passAccesses}
+use Rattle.expansion_rows.specs.Turns.{inverted, readStamp, writeStamp, valueAt, turnBytes, turnStamps, turnAccesses, rowOps, passBytes, passStamps, passAccesses}
 use Rattle.expansion_rows.proofs.RowList.{rows-ind}
 use Rattle.expansion_rows.specs.Held.{heldBytes, heldStamps, heldAllBytes, heldAllStamps, heldAccesses}
 
@@ -23,13 +25,19 @@ flatMap-append f [] ys = refl
 flatMap-append f (x ∷ xs) ys =
     ap (λ (l : List ℕ). f x ++ l) (flatMap-append f xs ys) ∙ sym (append-assoc (f x) (flatMap f xs) (flatMap f ys))
 
-pub flatMap-one : {A : Type 0} (f : A → List ℕ) (x : A) → flatMap f (x ∷ []) ≡ f x
-unfolding flatMap
-flatMap-one f x = append-nil (f x)
-
 pub flatMap-more : {A : Type 0} (f : A → List ℕ) (x : A) (xs : List A) → flatMap f (x ∷ xs) ≡ f x ++ flatMap f xs
 unfolding flatMap
 flatMap-more f x xs = refl
+
+-- parts of v numbers each
+pub flatMap-length : {A : Type 0} (v : ℕ) (f : A → List ℕ) (xs : List A) → All (λ (x : A). length (f x) ≡ v) xs
+    → length (flatMap f xs) ≡ v * length xs
+unfolding flatMap
+flatMap-length v f [] each = sym (mul-zero v)
+flatMap-length v f (x ∷ xs) each =
+    length-append (f x) (flatMap f xs)
+    ∙ ap₂ (λ (a b : ℕ). a + b) (each .0) (flatMap-length v f xs (each .1))
+    ∙ omega (arith, mul-suc v (length xs))
 
 -- One turn
 
@@ -95,11 +103,6 @@ unfolding heldAccesses
 held-accesses-length [] m = refl
 held-accesses-length (o ∷ os) m =
     ap suc (held-accesses-length os (windowOf (heldBytes o (m .bytes)) (heldStamps o (m .stamps))))
-
--- Records
-
-pub op-length : (r : Row) (bytes : List ℕ) → length (opRecord (rowOp r bytes)) ≡ 16
-op-length r bytes = omega (arith, length-cells bytes (r .call .src) (r .width))
 
 -- How many accesses the turns of a call's rows have
 

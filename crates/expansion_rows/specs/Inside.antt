@@ -11,6 +11,10 @@ use Rattle.window.specs.Window.{windowOf}
 use Rattle.expansion_rows.specs.Rows.{rowsOf}
 use Rattle.expansion_rows.specs.Turns.{writeStamp, passAccesses}
 
+-- every number of a window's bytes is a byte
+abbrev pub Bytes : List ℕ → Type 0
+Bytes l = (i : ℕ) → getD l i 0 < 256
+
 -- what remains of a call lies in a window of n cells; a Write has no destination there
 pub record CallInside (c : Call) (n : ℕ) : Type 0 where
   pub source : c .src + c .count ≤ n

@@ -43,18 +43,6 @@ bit-zero (suc (suc x)) h = absurd (omega arith)
 
 -- ---- sums
 
-pub addP-comm : (a b : ℕ) → addP a b ≡ addP b a
-unfolding addP
-addP-comm a b = omega arith
-
-pub addP-assoc : (a b c : ℕ) → addP (addP a b) c ≡ addP a (addP b c)
-unfolding addP
-addP-assoc a b c = omega arith
-
-pub addP-zero : (a : ℕ) → a < p → addP a 0 ≡ a
-unfolding addP
-addP-zero a h = omega arith
-
 pub zero-addP : (a : ℕ) → a < p → addP 0 a ≡ a
 unfolding addP
 zero-addP a h = omega arith
@@ -84,14 +72,6 @@ pub sub-zero : (a b : ℕ) → a < p → b < p → subP a b ≡ 0 → a ≡ b
 unfolding subP
 sub-zero a b ha hb h = omega arith
 
-pub subP-addP : (a b : ℕ) → a < p → b < p → addP (subP a b) b ≡ a
-unfolding addP subP
-subP-addP a b ha hb = omega arith
-
-pub addP-subP : (a b : ℕ) → a < p → b < p → subP (addP a b) b ≡ a
-unfolding addP subP
-addP-subP a b ha hb = omega arith
-
 -- ---- products
 
 pub mulP-comm : (a b : ℕ) → mulP a b ≡ mulP b a
@@ -101,10 +81,6 @@ mulP-comm a b = ap (λ x. x % p) (mul-comm a b)
 pub mulP-assoc : (a b c : ℕ) → mulP (mulP a b) c ≡ mulP a (mulP b c)
 unfolding mulP
 mulP-assoc a b c = mod-mul-left (a * b) c p ∙ ap (λ x. x % p) (mul-assoc a b c) ∙ sym (mod-mul-right a (b * c) p)
-
-pub mulP-addP : (a b c : ℕ) → mulP a (addP b c) ≡ addP (mulP a b) (mulP a c)
-unfolding mulP addP
-mulP-addP a b c = mod-mul-right a (b + c) p ∙ omega arith
 
 pub addP-mulP : (a b c : ℕ) → mulP (addP a b) c ≡ addP (mulP a c) (mulP b c)
 unfolding mulP addP

@@ -1,4 +1,3 @@
 pub mod Zero
 pub mod MadeRows
-pub mod LargeNumbers
 pub mod ResidueAnswers

@@ -8,9 +8,11 @@ use borrow.Author.Tests.{lt-ltb, le-ltb, le-leb, lt-leb, eq-eqb, ne-eqb}
 use lib.ListN.{length}
 use Rattle.answer.specs.declared.Answer.{Answer}
 use Rattle.copy_residues.specs.Range.{firstLarge}
+use Rattle.copy_residues.proofs.InRange.{each-below}
 use Rattle.memw.specs.Tables.{rowWidth}
 use Rattle.memw.specs.declared.AccessTable.{AccessTable}
 use Rattle.memw_residues.specs.Residues.{residueCount, tableResidue}
+use Rattle.memw_residues.specs.Elements.{Elements}
 use Rattle.memw_residues.specs.Answers.{residueAnswer, residueNumbers}
 use Rattle.memw_residues.specs.declared.MemwResidueAnswer.{MemwResidueAnswer}
 use Rattle.memw_residues.specs.declared.MemwResidueAnswer.the-variants.{Residue, NoResidue, NotRow, NotElement}
@@ -35,6 +37,9 @@ module _ (t : AccessTable) (row : List ℕ) (number : ℕ) where
   unfolding residueAnswer
   residue-answer n w l =
       rw (lt-leb (residueCount t) number n, eq-eqb (length row) (rowWidth t) w, le-ltb (firstLarge row) (rowWidth t) l)
+
+pub elements : (row : List ℕ) → length row ≤ firstLarge row → Elements row
+elements row h = record { each = each-below row h }
 
 -- two answers with the same numbers are the same case with the same value
 pub residueNumbers-injective : (x y : MemwResidueAnswer) → residueNumbers x ≡ residueNumbers y → x ≡ y

@@ -5,7 +5,7 @@ use crate::MemwResidueAnswer;
 use crate::equations::bit;
 use crate::equations::bit_of_sum;
 use crate::equations::flag_residue;
-use field::element::P;
+use copy_residues::range::first_large;
 use memw::AccessTable;
 use memw::tables::row_width;
 use memw_rows::aligned_cols;
@@ -14,7 +14,6 @@ use memw_rows::register_cols;
 ghost use mathlib.Core.Path.{_≡_};
 ghost use Prim.Native.Nat.{_<_};
 ghost use lib.ListN.{length};
-ghost use Rattle.copy_residues.specs.Range.{firstLarge};
 ghost use Rattle.memw.specs.Tables.{rowWidth};
 ghost use Rattle.memw.specs.declared.AccessTable.the-variants.{General, Aligned, Register};
 ghost use Rattle.memw_residues.specs.Residues.{memwFlags, alignedFlags, memwResidue, registerResidue, residueCount, tableResidue};
@@ -94,20 +93,6 @@ fn residue_count(t: AccessTable) -> u64
         AccessTable::Aligned => 8,
         AccessTable::Register => 3,
     }
-}
-
-// The lowest number of a slice that is no element, or the length.
-fn first_large(row: &[u64]) -> usize
-    ensures { λ r. ⌜ r ≡ firstLarge (now (row .entry)) ⌝ }
-{
-    let mut c = 0;
-    while c < row.len() {
-        if P <= row[c] {
-            return c;
-        }
-        c += 1;
-    }
-    c
 }
 
 // A table's residue of a number, or the first refusal that applies: 12, 13, 14.

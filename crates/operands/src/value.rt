@@ -4,18 +4,17 @@ use crate::AddLinearTerm;
 use crate::AddOperand;
 use crate::OperandKind;
 use crate::TermCell;
-use field::element::INV_SHIFT_32;
+use copy_residues::carries::carry_high;
+use copy_residues::carries::carry_low;
 use field::element::P;
 use field::element::add;
 use field::element::is_bit;
 use field::element::mul;
-use field::element::sub;
 ghost use mathlib.Core.Path.{_≡_};
 ghost use mathlib.Core.Bool.{true};
 ghost use Prim.Native.Nat.{_<_};
 ghost use lib.ListN.{length};
 ghost use Rattle.field.specs.Field.{p};
-ghost use Rattle.field.specs.Carries.{carryLow, carryHigh};
 ghost use Rattle.copy_row.specs.Columns.{COLUMNS};
 ghost use Rattle.copy_residues.specs.Cells.{Elements};
 ghost use Rattle.operands.specs.Operands.{signedP, termValue, termsValue, lowValue, highValue};
@@ -100,22 +99,6 @@ fn high_value(o: AddOperand, row: &[u64]) -> u64
             terms_value(terms, high, row)
         }
     }
-}
-
-// c0 of three low values.
-fn carry_low(a: u64, b: u64, s: u64) -> u64
-    requires { ⌜ (a < p) × (b < p) × (s < p) ⌝ }
-    ensures { λ r. ⌜ (r ≡ carryLow a b s) × (r < p) ⌝ }
-{
-    mul(sub(add(a, b), s), INV_SHIFT_32)
-}
-
-// c1 of three high values and c0.
-fn carry_high(a: u64, b: u64, c: u64, s: u64) -> u64
-    requires { ⌜ (a < p) × (b < p) × (c < p) × (s < p) ⌝ }
-    ensures { λ r. ⌜ (r ≡ carryHigh a b c s) × (r < p) ⌝ }
-{
-    mul(sub(add(add(a, b), c), s), INV_SHIFT_32)
 }
 
 // Both carries of lhs + rhs = sum.

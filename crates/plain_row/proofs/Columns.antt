@@ -13,8 +13,9 @@ use Rattle.records.proofs.First.{first-none}
 use Rattle.copy_row.specs.Columns.{at, TIMESTAMP, VALUE, SRC, SRC-INCR, DST, DST-INCR, COUNT, COUNT-DECR, DST-RES, FIRST, END, SINGLE, IS-SET, IS-WRITE, MU, COLUMNS}
 use Rattle.copy_residues.specs.Range.{columnLimits}
 use Rattle.copy_meaning.specs.RowIff.{InRange}
+use Rattle.copy_meaning.specs.ReadRow.{TwoWords, FourHalves}
 use Rattle.copy_meaning.proofs.Columns as Ranged
-use Rattle.plain_row.specs.Tests.{caps, Fits, TwoWords, FourHalves, TailAt}
+use Rattle.plain_row.specs.Tests.{caps, Fits, TailAt}
 use Rattle.plain_row.proofs.Booleans.{and-true, or-true, true-or}
 
 -- a cap is at most the column's limit
@@ -35,28 +36,28 @@ module _ (row : List ℕ) (fit : Fits row) where
   fits-range c h = omega (arith, fit c h, caps-limits c h)
 
   pub stamp-words : TwoWords row TIMESTAMP
-  stamp-words = omega (arith, Ranged.stamp-words row fits-range)
+  stamp-words = Ranged.stamp-words row fits-range
 
   pub src-words : TwoWords row SRC
-  src-words = omega (arith, Ranged.src-words row fits-range)
+  src-words = Ranged.src-words row fits-range
 
   pub dst-words : TwoWords row DST
-  dst-words = omega (arith, Ranged.dst-words row fits-range)
+  dst-words = Ranged.dst-words row fits-range
 
   pub count-words : TwoWords row COUNT
-  count-words = omega (arith, Ranged.count-words row fits-range)
+  count-words = Ranged.count-words row fits-range
 
   pub src-halves : FourHalves row SRC-INCR
-  src-halves = omega (arith, Ranged.src-halves row fits-range)
+  src-halves = Ranged.src-halves row fits-range
 
   pub dst-halves : FourHalves row DST-INCR
-  dst-halves = omega (arith, Ranged.dst-halves row fits-range)
+  dst-halves = Ranged.dst-halves row fits-range
 
   pub count-halves : FourHalves row COUNT-DECR
-  count-halves = omega (arith, Ranged.count-halves row fits-range)
+  count-halves = Ranged.count-halves row fits-range
 
   pub res-halves : FourHalves row DST-RES
-  res-halves = omega (arith, Ranged.res-halves row fits-range)
+  res-halves = Ranged.res-halves row fits-range
 
   pub end-bit : at row END < 2
   unfolding Fits caps columnLimits

@@ -16,17 +16,6 @@ caps = take FIRST columnLimits ++ replicate 9 2
 unfoldable pub Fits : List ℕ → Type 0
 Fits row = (c : ℕ) → c < COLUMNS → at row c < getD caps c 0
 
--- two words, four halves from column c on
-pub record TwoWords (row : List ℕ) (c : ℕ) : Type 0 where
-  pub low : at row c < 2 ^ 32
-  pub high : at row (c + 1) < 2 ^ 32
-
-pub record FourHalves (row : List ℕ) (c : ℕ) : Type 0 where
-  pub first : at row c < 2 ^ 16
-  pub second : at row (c + 1) < 2 ^ 16
-  pub third : at row (c + 2) < 2 ^ 16
-  pub fourth : at row (c + 3) < 2 ^ 16
-
 -- a row with a mark or a kind is live and has one kind; an empty row opens and ends its call; the multiplicities
 pub record Flags (first end single set write firstWrite mu muCom muComWide count : ℕ) : Type 0 where
   pub first-live : first ≤ mu

@@ -8,8 +8,8 @@ ghost use lib.ListN.{length};
 ghost use Rattle.copy_row.specs.Columns.{at, COUNT, SINGLE, COLUMNS};
 ghost use Rattle.copy_residues.specs.RowCheck.{rowFault};
 ghost use Rattle.copy_residues.specs.declared.RowFault.the-variants.{Fine};
-ghost use Rattle.copy_meaning.specs.ReadRow.{wordsAt, halvesAt};
-ghost use Rattle.plain_row.specs.Tests.{Fits, TwoWords, FourHalves, FlagsAt, MovesAt, CountsAt, ResultAt, GapAt, TailAt};
+ghost use Rattle.copy_meaning.specs.ReadRow.{TwoWords, FourHalves, wordsAt, halvesAt};
+ghost use Rattle.plain_row.specs.Tests.{Fits, FlagsAt, MovesAt, CountsAt, ResultAt, GapAt, TailAt};
 use crate::tests;
 use copy_row::cols;
 

@@ -22,17 +22,18 @@ use Rattle.chain.specs.declared.ChainAnswer.the-variants.{GapTooLarge, NotRows,
 use Rattle.read_back.specs.ReadBack.{rowAt, rowsIn}
 use Rattle.read_back.specs.Steps.{RowsFit}
 
-abbrev Accepted : ChainAnswer → Type 0
+-- a verdict that refuses nothing, of a row's faults and of a link
+abbrev pub Accepted : ChainAnswer → Type 0
 Accepted v = chainNumbers v .number ≡ 0
 
-fault-accepted : (f : RowFault) (k : ℕ) (v : ChainAnswer) → Accepted (onFault f k v) → (f ≡ Fine) × Accepted v
+pub fault-accepted : (f : RowFault) (k : ℕ) (v : ChainAnswer) → Accepted (onFault f k v) → (f ≡ Fine) × Accepted v
 fault-accepted Fine k v e = (refl, e)
 fault-accepted NotElement k v e = absurd (omega arith)
 fault-accepted OutOfRange k v e = absurd (omega arith)
 fault-accepted (NotZero i) k v e = absurd (omega arith)
 
-link-accepted : (t : Bool) (k : ℕ) (v : ChainAnswer) → Accepted (cond t v (LinkBroken k)) → Accepted v
-link-accepted true k v e = e
+pub link-accepted : (t : Bool) (k : ℕ) (v : ChainAnswer) → Accepted (cond t v (LinkBroken k)) → (t ≡ true) × Accepted v
+link-accepted true k v e = (refl, e)
 link-accepted false k v e = absurd (omega arith)
 
 rows-fine : (gap : ℕ) (b : Before) (k n : ℕ) (l : List ℕ) → Accepted (chainFrom gap b k (rowsFrom n l)) → (j : ℕ) → j < n
@@ -45,7 +46,7 @@ rows-fine gap b k (suc n) l e (suc j) h =
     let d : 41 * suc j ≡ 41 + 41 * j = omega arith in
     let t : drop (41 * suc j) l ≡ drop (41 * j) (drop 41 l) = ap (λ (i : ℕ). drop i l) d ∙ sym (drop-drop (41 * j) 41 l) in
     ap (λ (r : List ℕ). rowFault gap (take 41 r)) t
-    ∙ rows-fine gap (before (take 41 l)) (k + 1) n (drop 41 l) (link-accepted (linked b (take 41 l)) k _ (f .1)) j (omega arith)
+    ∙ rows-fine gap (before (take 41 l)) (k + 1) n (drop 41 l) (link-accepted (linked b (take 41 l)) k _ (f .1) .1) j (omega arith)
 
 pub passed-fit : (gap : ℕ) (l : List ℕ) → Accepted (chainAnswer gap l) → RowsFit l
 unfolding chainAnswer

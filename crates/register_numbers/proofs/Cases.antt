@@ -9,7 +9,6 @@ use Rattle.answer.specs.Numbers.{refused}
 use Rattle.copy_row.specs.Columns.{at}
 use Rattle.copy_row.specs.declared.Functionality.{Functionality}
 use Rattle.registers.specs.declared.RegisterState.{RegisterState}
-use Rattle.registers.specs.declared.RegisterStep.{RegisterStep}
 use Rattle.registers.specs.Step.{registerStep, stepNumbers}
 use Rattle.register_numbers.specs.RegisterNumbers.{INDEX, kindOf, stateOf, stateNumbers, flatStep, flatAnswer, stateAfter, recordsAfter}
 

@@ -1,31 +1,23 @@
 -- Three parts put one behind the other into the 68 numbers of a state replace them. Assumes nothing.
-use mathlib.Core.Path.{_≡_, sym, ap, _∙_}
+use mathlib.Core.Path.{_≡_, ap, _∙_}
 use mathlib.Core.List.{List, _++_}
-use Prim.Native.Nat.{ℕ, _+_, _≤_}
+use Prim.Native.Nat.{ℕ}
 use native.Mathlib.Omega.{arith}
 use lib.ListN.{length, take, drop, length-append}
 use Rattle.records.specs.Lists.{store}
-use Rattle.records.proofs.Store.{length-store, store-append, store-all, part-store}
-
--- what is stored behind xs is stored with xs
-behind : (l xs ys : List ℕ) (i j : ℕ) → j ≡ i + length xs → store (store l i xs) j ys ≡ store l i (xs ++ ys)
-behind l xs ys i j e = ap (λ (n : ℕ). store (store l i xs) n ys) e ∙ sym (store-append l i xs ys)
-
--- n numbers put at p
-placed : (l t xs : List ℕ) (p n : ℕ) → length l ≡ 68 → length xs ≡ n → p + n ≤ 68 → t ≡ take p l ++ (xs ++ drop n (drop p l))
-    → t ≡ store l p xs
-placed l t xs p n whole e h q = q ∙ part-store l xs p n e (omega arith)
+use Rattle.records.proofs.Store.{length-store, store-all}
+use Rattle.registers.proofs.FourRecords.{behind, placed}
 
 -- the list after each of the three is t1, t2, t3
 pub three-placed : (l t1 t2 t3 a b c : List ℕ) → length l ≡ 68 → length a ≡ 32 → length b ≡ 32 → length c ≡ 4
     → t1 ≡ a ++ drop 32 l → t2 ≡ take 32 t1 ++ (b ++ drop 32 (drop 32 t1)) → t3 ≡ take 64 t2 ++ (c ++ drop 4 (drop 64 t2))
     → t3 ≡ a ++ (b ++ c)
 three-placed l t1 t2 t3 a b c whole ha hb hc e1 e2 e3 =
-    let q1 = placed l t1 a 0 32 whole ha (omega arith) e1 in
+    let q1 = placed l t1 a 0 32 68 whole ha (omega arith) e1 in
     let w1 = ap length q1 ∙ length-store l 0 a ∙ whole in
-    let q2 = placed t1 t2 b 32 32 w1 hb (omega arith) e2 in
+    let q2 = placed t1 t2 b 32 32 68 w1 hb (omega arith) e2 in
     let w2 = ap length q2 ∙ length-store t1 32 b ∙ w1 in
-    let q3 = placed t2 t3 c 64 4 w2 hc (omega arith) e3 in
+    let q3 = placed t2 t3 c 64 4 68 w2 hc (omega arith) e3 in
     q3
     ∙ ap (λ (t : List ℕ). store t 64 c) q2
     ∙ behind t1 b c 32 64 (omega arith)

@@ -10,7 +10,7 @@ use lib.ListN.{length, take, drop, length-append}
 use lib.Seq.{take-at}
 use Rattle.records.specs.Lists.{store, flat, picked, counted}
 use Rattle.records.specs.Records.{recordCount, recordAt}
-use Rattle.records.proofs.Store.{store-eq, drop-store}
+use Rattle.records.proofs.Store.{store-eq}
 use Rattle.copy_row.specs.Rows.{bit}
 use Rattle.access.specs.Access.{ACCESS-WIDTH}
 use Rattle.classify.specs.Classify.{classify}
@@ -20,8 +20,6 @@ use Rattle.classify.specs.declared.MemwRoute.the-variants.{Register, Aligned, G
 use Rattle.routing.specs.Routing.{sameRoute, routedOf, countOf, firstRefused, routeAfter}
 use Rattle.routing.specs.Steps.{Holds}
 use Rattle.routing.specs.InOrder.{listed, kept, recordsOf, RoutedInOrder}
-use Rattle.routing.specs.declared.RouteAnswer.{RouteAnswer}
-use Rattle.routing.specs.declared.RouteAnswer.the-variants.{Routed, TooManyRecords, BadRecord, BadAddress, BufferShort}
 use Rattle.routing.proofs.Routes.{count-none, count-more, routed-length}
 use Rattle.routing.proofs.Judging.{routed-facts, all-routable}
 
@@ -125,13 +123,3 @@ routed-in-order limit l register aligned general r a g e =
       aligned-count = records-count Aligned l ∙ sym (f .count-aligned);
       general-count = records-count General l ∙ sym (f .count-general);
     }
-
--- numbers past the result keep their values, and so does a list where nothing is routed
-pub past-routed : (t : MemwRoute) (l buffer : List ℕ) (x : RouteAnswer) (n : ℕ) → length (routedOf t l (recordCount ACCESS-WIDTH l)) ≤ n
-    → drop n (routeAfter t l x buffer) ≡ drop n buffer
-unfolding routeAfter
-past-routed t l buffer (Routed r a g) n h = drop-store buffer 0 _ n (omega arith)
-past-routed t l buffer TooManyRecords n h = refl
-past-routed t l buffer (BadRecord k) n h = refl
-past-routed t l buffer (BadAddress k) n h = refl
-past-routed t l buffer BufferShort n h = refl

@@ -8,11 +8,8 @@ use mathlib.Core.List.{List, [], _∷_, _++_}
 use native.Mathlib.Omega.{arith}
 use borrow.Author.Tests.{lt-ltb, le-ltb, leb-true, leb-false}
 use lib.Dec.{leb}
-use Rattle.io.specs.Digits.{digits, glyph, Fewest}
+use Rattle.io.specs.Digits.{digits, Fewest}
 use Rattle.row_text.specs.Rows.{digitsBy, decimalText}
-
-glyph-low : (d : ℕ) → d < 10 → glyph d ≡ 48 + d
-glyph-low d h = rw (lt-ltb d 10 h)
 
 one-digit : (f n : ℕ) → n < 10 → digits 10 1 n ≡ digitsBy (suc f) n
 unfolding digitsBy

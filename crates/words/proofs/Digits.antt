@@ -3,11 +3,11 @@
 use mathlib.Core.Path.{_≡_, refl, sym, ap, _∙_}
 use mathlib.Core.List.{List, [], _∷_}
 use Prim.Native.Nat.{ℕ, zero, suc, _+_, _*_, _/_, _%_, _^_, _<_}
-use native.Mathlib.Nat.{mul-suc, mul-zero, mul-comm, add-comm, mod-one, mod-lt, mod-eq-of-lt, div-one, div-div-eq-div-mul}
+use native.Mathlib.Nat.{mul-suc, mul-zero, mul-comm, add-comm, mod-one, mod-lt, mod-eq-of-lt, div-div-eq-div-mul}
 use native.Mathlib.Omega.{arith}
 use lib.ListN.{length, getD}
 use lib.Arith.{digits-lt}
-use lib.Pow.{pow-pos, pow-add, shr-shr}
+use lib.Pow.{pow-pos, pow-add}
 use Rattle.words.specs.Words.{digits, number, words, halves, bytes}
 use Rattle.words.proofs.Limbs.{mod-mul, low-limb, high-limb, Two, Four}
 
@@ -60,25 +60,11 @@ number-lt w (d ∷ ds) b =
     let e : d + 2 ^ w * number w ds ≡ number w ds * 2 ^ w + d = add-comm d (2 ^ w * number w ds) ∙ ap (λ t. t + d) (mul-comm (2 ^ w) (number w ds)) in
     rw (mul-suc, pow-add, e) (digits-lt (number-lt w ds (b .1)) (b .0))
 
--- digit i is what stands there, w * i bits up
-pub digit-at : (w n x i : ℕ) → i < n → getD (digits w n x) i 0 ≡ x / 2 ^ (w * i) % 2 ^ w
-digit-at w zero x i h = absurd (omega arith)
-digit-at w (suc n) x zero h = rw (mul-zero, div-one)
-digit-at w (suc n) x (suc i) h =
-    digit-at w n (x / 2 ^ w) i (omega arith)
-    ∙ ap (λ q. q % 2 ^ w) (shr-shr x w (w * i) ∙ ap (λ e. x / 2 ^ e) (add-comm w (w * i) ∙ sym (mul-suc w i)))
-
--- Words, halves and bytes of a 64-bit number
+-- Halves and bytes of a 64-bit number
 
 module _ (x : ℕ) (fits : x < 2 ^ 64) where
-  pub words-whole : number 32 (words x) ≡ x
-  words-whole = number-whole 32 2 x fits
-
   pub halves-whole : number 16 (halves x) ≡ x
   halves-whole = number-whole 16 4 x fits
-
-  pub bytes-whole : number 8 (bytes x) ≡ x
-  bytes-whole = number-whole 8 8 x fits
 
   -- the digits that shifts take
   pub halves-shifted : x % 2 ^ 16 ∷ x / 2 ^ 16 % 2 ^ 16 ∷ x / 2 ^ 32 % 2 ^ 16 ∷ x / 2 ^ 48 ∷ [] ≡ halves x

@@ -1,4 +1,4 @@
--- Two and four limbs of a number, lowest first, with the base a parameter: from the number to its limbs and back. Assumes nothing.
+-- Two and four limbs of a number, lowest first, with the base a parameter: from a number to its limbs. Assumes nothing.
 use mathlib.Core.Path.{_≡_, sym, ap, _∙_}
 use Prim.Native.Nat.{ℕ, _+_, _*_, _%_, _/_, _<_}
 use native.Mathlib.Omega.{arith}
@@ -53,15 +53,3 @@ four-of b x a0 a1 a2 a3 h0 h1 h2 h3 e =
 
     two : x / b / b ≡ a2 + b * a3
     two = ap (λ t. t / b) one ∙ high-limb b a1 (a2 + b * a3) h1
-
--- and back
-pub two-back : (b x a0 a1 : ℕ) → x < b * b → Two b x a0 a1 → a0 + b * a1 ≡ x
-two-back b x a0 a1 h t = (λ i. t .l0 i + b * t .l1 i) ∙ sym (mod-mul x b b) ∙ mod-eq-of-lt h
-
-pub four-back : (b x a0 a1 a2 a3 : ℕ) → x < b * b * (b * b) → Four b x a0 a1 a2 a3 → a0 + b * a1 + b * b * (a2 + b * a3) ≡ x
-four-back b x a0 a1 a2 a3 h t =
-    let top = div-div-eq-div-mul x b b in
-    let low : a0 + b * a1 ≡ x % (b * b) = (λ i. t .l0 i + b * t .l1 i) ∙ sym (mod-mul x b b) in
-    let high : a2 + b * a3 ≡ x / (b * b) % (b * b) =
-    (λ i. t .l2 i + b * t .l3 i) ∙ sym (mod-mul (x / b / b) b b) ∙ ap (λ y. y % (b * b)) top in
-    (λ i. low i + b * b * high i) ∙ sym (mod-mul x (b * b) (b * b)) ∙ mod-eq-of-lt h

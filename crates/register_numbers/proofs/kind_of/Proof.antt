@@ -1,6 +1,5 @@
 -- `register_numbers::kind_of` meets its contract: each test is one of the definition's. Assumes nothing.
 use borrow.Author.Tests.{eq-eqb, ne-eqb}
-use borrow.Author.Needs.{needs}
 use Rattle.register_numbers.proofs.kind_of.Statement.{statement}
 use Rattle.register_numbers.proofs.kind_of.Tie as tie
 

@@ -3,8 +3,7 @@ use mathlib.Core.Path.{sym, ap, _∙_}
 use native.Mathlib.Omega.{arith}
 use borrow.Author.Needs.{needs}
 use Rattle.memw_residues.specs.declared.MemwResidueAnswer.the-variants.{Residue, NotElement}
-use Rattle.memw_residues.proofs.LargeNumbers.{elements}
-use Rattle.memw_residues.proofs.ResidueAnswers.{no-residue, not-row, not-element, residue-answer}
+use Rattle.memw_residues.proofs.ResidueAnswers.{no-residue, not-row, not-element, residue-answer, elements}
 use Rattle.memw_residues.proofs.residues.residue_in.Statement.{statement}
 use Rattle.memw_residues.proofs.residues.residue_in.Tie as tie
 
