@@ -1,1 +1,6 @@
 pub mod OneCall
+pub mod InTurn
+pub mod Counted
+pub mod Walk
+pub mod Expanding
+pub mod Counting

@@ -20,7 +20,7 @@ use Rattle.expansion_rows.specs.Rows.{copyRowWidth, Row, rowsOf}
 use Rattle.expansion_rows.specs.Turns.{passBytes, passStamps}
 use Rattle.expansion_rows.proofs.RowList.{rows-next}
 use Rattle.expansion_rows.proofs.Lengths.{pass-bytes-length, pass-stamps-length, held-bytes-length, held-stamps-length}
-use Rattle.expansion.specs.Refusals.{opCount, expansionNumbers}
+use Rattle.expansion.specs.Refusals.{opCount, expansionAnswer, expansionNumbers}
 use Rattle.expansion.specs.Expansion.{Lent, callOps, callBytes, callStamps, deferred, expanded, answerFor, ifExpanded, lentAfter}
 use Rattle.expansion.specs.declared.ExpansionAnswer.{ExpansionAnswer}
 use Rattle.expansion.specs.declared.ExpansionAnswer.the-variants.{Expanded, GapTooLarge, BadWindow, LastStamp, NotGapApart, PastIndex, OutsideWindow, BufferShort}
@@ -55,6 +55,23 @@ op-count-pos c = go (c .count) refl
         rw (ne-eqb (c .count) 0 (λ e. omega arith))
         (omega (arith, ap (λ (rows : List Row). length rows) (rows-next c (copyRowWidth c) 1 refl (omega arith))))
 
+-- the records fit into the room for them, whatever is answered
+pub value-room : (gap : ℕ) (c : Call) (cells stamped room space : ℕ)
+    → OP-WIDTH * expansionNumbers (expansionAnswer 65536 gap c cells stamped room space) .answer .value ≤ room
+value-room gap c cells stamped room space = go (expansionAnswer 65536 gap c cells stamped room space) refl
+  where
+    go : (a : ExpansionAnswer) → expansionAnswer 65536 gap c cells stamped room space ≡ a → OP-WIDTH * expansionNumbers a .answer .value ≤ room
+    go (Expanded ops accesses) e =
+        let made = accepted-is 65536 gap c cells stamped room space ops accesses e in
+        omega (arith, made .ops-are, made .ops-fit)
+    go GapTooLarge e = omega arith
+    go BadWindow e = omega arith
+    go LastStamp e = omega arith
+    go NotGapApart e = omega arith
+    go PastIndex e = omega arith
+    go OutsideWindow e = omega arith
+    go BufferShort e = omega arith
+
 module _ (gap : ℕ) (t : Try) where
   abbrev c : Call
   c = callIn t
@@ -86,7 +103,7 @@ module _ (gap : ℕ) (t : Try) where
           (record {
             number = ap (λ (x : ExpansionAnswer). eqb (expansionNumbers x .answer .number) 0) e;
             some = omega (arith, made .ops-are, op-count-pos c);
-            room = omega (arith, made .ops-are, made .ops-fit);
+            room = value-room gap c (length (l .bytes)) (length (l .stamps)) (length (l .ops)) (length (l .accesses));
             after = after-by (Expanded ops accesses) e;
           })
       go GapTooLarge e = inl (refused-with GapTooLarge e refl refl refl)

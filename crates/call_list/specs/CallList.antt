@@ -1,9 +1,10 @@
 -- Calls that go to the expansion in turn over one window. Document 01: "The calls, none or any number, go to the expansion one by one under
 -- one gap. Each finds any window, be it the one that the call before left or another", "a refused call leaves its window as it was and
 -- adds no record". Here each finds the window that the call before left, and the rest of the record buffer. Assumes nothing.
+use mathlib.Core.Path.{_≡_}
 use mathlib.Core.Bool.{cond}
 use mathlib.Core.List.{List, [], _∷_, _++_}
-use Prim.Native.Nat.{ℕ, zero, suc, _*_, _/_}
+use Prim.Native.Nat.{ℕ, zero, suc, _+_, _*_, _/_, _≤_}
 use lib.Dec.{ltb}
 use lib.ListN.{length, drop}
 use Rattle.records.specs.Lists.{store}
@@ -66,3 +67,14 @@ unfoldable pub allExpanded : ℕ → List Call → Lent → Lent
 allExpanded gap cs l =
     let last = lastLeaves gap cs l in
     lent (last .bytes) (last .stamps) (store (l .ops) 0 (acceptedOps gap (triesOf gap cs l))) (last .accesses)
+
+-- One call in a record buffer that already has `done` records: r is how many it adds, and the primed slices are the four afterwards
+pub record Turned (gap : ℕ) (c : Call) (done : ℕ) (bytes stamps ops accesses bytes′ stamps′ ops′ accesses′ : List ℕ) (r : ℕ) : Type 0 where
+  -- the records of the call, if it is accepted
+  pub count : OP-WIDTH * r ≡ length (acceptedOps gap (handed c (lent bytes stamps (drop (OP-WIDTH * done) ops) accesses)))
+  pub room : OP-WIDTH * (done + r) ≤ length ops
+  -- stand behind those before it
+  pub stored : ops′ ≡ store ops (OP-WIDTH * done) (acceptedOps gap (handed c (lent bytes stamps (drop (OP-WIDTH * done) ops) accesses)))
+  -- and the next call finds what this one leaves
+  pub left : lent bytes′ stamps′ (drop (OP-WIDTH * (done + r)) ops′) accesses′
+      ≡ next gap c (lent bytes stamps (drop (OP-WIDTH * done) ops) accesses)
