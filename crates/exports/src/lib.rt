@@ -15,6 +15,8 @@ ghost use Rattle.memw.specs.Tables.{memwAnswer, memwAfter};
 ghost use Rattle.memw_residues.specs.Answers.{residueAnswer as memwResidueAnswer};
 ghost use Rattle.memw_residues.specs.Answers.{residueNumbers as memwResidueNumbers};
 ghost use Rattle.chain.specs.Chain.{chainAnswer, chainNumbers};
+ghost use Rattle.read_back.specs.ReadBack.{readBackAnswer, readBackNumbers, opsAfter, callsAfter};
+ghost use Rattle.read_back.specs.Counts.{countsAfter as readCounts};
 ghost use Rattle.records.specs.Records.{recordCount};
 ghost use Rattle.classify.specs.declared.MemwRoute.the-variants.{Register as ToRegister, Aligned as ToAligned, General as ToGeneral};
 ghost use Rattle.routing.specs.Routing.{routeAnswer, routeAfter, routeNumbers};
@@ -129,6 +131,24 @@ pub extern "C" fn chain_check(gap: u64, rows: &[u64]) -> Answer
     ensures answer { λ r. ⌜ r ≡ chainNumbers (chainAnswer gap (now (rows .entry))) ⌝ }
 {
     chain::chain_numbers(chain::chain_check(gap, rows))
+}
+
+// Read-back of a row list, or the chain check's refusals, then 9; the value is the number of operation records, and `counts` has it and
+// the number of calls.
+#[no_mangle]
+pub extern "C" fn read_back(
+    gap: u64,
+    rows: &[u64],
+    ops: &mut [u64],
+    calls: &mut [u64],
+    counts: &mut [u64; 2],
+) -> Answer
+    ensures answer { λ r. ⌜ r ≡ readBackNumbers (readBackAnswer gap (now (rows .entry)) (length (now (ops .entry))) (length (now (calls .entry)))) .answer ⌝ }
+    ensures ops { λ r. ⌜ now (ops .exit) ≡ opsAfter (readBackAnswer gap (now (rows .entry)) (length (now (ops .entry))) (length (now (calls .entry)))) (now (rows .entry)) (now (ops .entry)) ⌝ }
+    ensures calls { λ r. ⌜ now (calls .exit) ≡ callsAfter (readBackAnswer gap (now (rows .entry)) (length (now (ops .entry))) (length (now (calls .entry)))) (now (rows .entry)) (now (calls .entry)) ⌝ }
+    ensures counts { λ r. ⌜ now (counts .exit) ≡ readCounts (readBackNumbers (readBackAnswer gap (now (rows .entry)) (length (now (ops .entry))) (length (now (calls .entry))))) (now (counts .entry)) ⌝ }
+{
+    read_back::read_back_numbers(read_back::read_back(gap, rows, ops, calls), counts)
 }
 
 // The access records routed into three lists, or 8, 10, 11, 9; the value is the number of records read, and `counts` has how many went

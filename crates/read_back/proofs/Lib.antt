@@ -1,1 +1,4 @@
 pub mod Answers
+pub mod Filled
+pub mod Passed
+pub mod Read

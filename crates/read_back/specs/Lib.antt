@@ -1,1 +1,3 @@
+pub mod Counts
 pub mod ReadBack
+pub mod Steps
