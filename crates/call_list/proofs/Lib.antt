@@ -4,3 +4,4 @@ pub mod Counted
 pub mod Walk
 pub mod Expanding
 pub mod Counting
+pub mod Typed
