@@ -13,7 +13,7 @@ use Rattle.read_back.specs.ReadBack.{CALL-WIDTH}
 use Rattle.demand.specs.Demand.{acceptedOps, acceptedCalls}
 use Rattle.call_list.specs.CallList.{handed, next, triesOf}
 use Rattle.call_list.specs.Counts.{recordsOf, allRecords, allCalls}
-use Rattle.call_list.proofs.InTurn.{added, added-length, added-calls, next-bytes, next-stamps, next-accesses, next-ops, more-ops, more-calls}
+use Rattle.call_list.proofs.InTurn.{added, added-length, added-calls, added-room, next-bytes, next-stamps, next-accesses, next-ops, more-ops, more-calls}
 
 module _ (gap : ℕ) where
   -- by the lengths of four slices
@@ -44,3 +44,13 @@ module _ (gap : ℕ) where
       rw (next-bytes gap c l, next-stamps gap c l, next-ops gap c l, next-accesses gap c l) in
       ap length (more-calls gap c cs l)
       ∙ omega (arith, length-append (acceptedCalls gap (handed c l)) rest, added-calls gap c l)
+
+  -- the records fit into the buffer
+  pub records-fit : (cs : List Call) (l : Lent) → length (acceptedOps gap (triesOf gap cs l)) ≤ length (l .ops)
+  unfolding triesOf flatMap
+  records-fit [] l = omega arith
+  records-fit (c ∷ cs) l =
+      let rest = acceptedOps gap (triesOf gap cs (next gap c l)) in
+      let later = records-fit cs (next gap c l) in
+      let both = ap length (more-ops gap c cs l) ∙ length-append (acceptedOps gap (handed c l)) rest in
+      omega (arith, both, added-length gap c l, added-room gap c l, next-ops gap c l)

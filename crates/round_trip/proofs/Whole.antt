@@ -2,7 +2,7 @@
 -- come to in each. The records of accepted calls are good, so the maker has nothing else to refuse, and demand 3 says that the rows written
 -- pass and are read back as what went in. Assumes nothing.
 use mathlib.Core.Path.{_≡_, refl, sym, ap, _∙_}
-use mathlib.Core.Bool.{Bool, true, false, cond, and-false}
+use mathlib.Core.Bool.{Bool, true, false, cond, or-true}
 use mathlib.Core.Logic.{_⊎_, inl, inr}
 use mathlib.Core.List.{List, map, flatMap}
 use mathlib.Core.Option.{none}
@@ -36,7 +36,7 @@ use Rattle.call_list.specs.CallList.{callsIn, allExpanded}
 use Rattle.call_list.proofs.Counted as counted
 use Rattle.call_list.proofs.Typed.{calls-wide, tries-typed}
 use Rattle.round_trip.specs.Trip.{Trip, tries, recordsIn, callsHanded, maker, tableMade, written, reader, RoundTripNumbers, refusedBy, fromReader, onMaker, tripNumbers, roundTripNumbers, slicesAfter, tableAfter, opsBackAfter, callsBackAfter}
-use Rattle.round_trip.specs.Decided.{decided}
+use Rattle.round_trip.specs.Legs.{decided}
 use Rattle.round_trip.specs.RoundTrip.{TypedTrip}
 use Rattle.round_trip.specs.declared.RoundTripAnswer.{RoundTripAnswer}
 use Rattle.round_trip.specs.declared.RoundTripAnswer.the-variants.{Passed, TooManyRecords, BufferShort}
@@ -123,7 +123,7 @@ module _ (t : Trip) (typed : TypedTrip t) where
       abbrev rows : ℕ
       rows = rowCount (recordsOf t)
 
-      made : maker t ≡ table.Made rows
+      pub made : maker t ≡ table.Made rows
       made = maker-is ∙ rw (le-ltb _ _ few, le-leb _ _ room)
 
       -- demand 3
@@ -178,10 +178,15 @@ module _ (t : Trip) (typed : TypedTrip t) where
   unfolding decided
   decided-is = go (way t)
     where
+      either : (b : Bool) → roundTripNumbers (cond b BufferShort BufferShort) ≡ refusedBy (refused 9 0)
+      either true = refl
+      either false = refl
+
       go : Way t → roundTripNumbers (decided (recordsOf t) (callsOf t) (length (t .table)) (length (t .opsBack)) (length (t .callsBack))) ≡ tripNumbers t
       go (over h) = rw (lt-ltb _ _ h) (sym (trip-over h))
-      go (short few (inl h)) = rw (le-ltb _ _ few, lt-leb _ _ h) (sym (trip-short few (inl h)))
-      go (short few (inr (inl h))) = rw (le-ltb _ _ few, lt-leb (OP-WIDTH * recordsOf t) (length (t .opsBack)) h, and-false) (sym (trip-short few (inr (inl h))))
+      go (short few (inl h)) = rw (le-ltb _ _ few, lt-ltb _ _ h) (sym (trip-short few (inl h)))
+      go (short few (inr (inl h))) =
+          rw (le-ltb _ _ few, lt-ltb (length (t .opsBack)) (OP-WIDTH * recordsOf t) h) (either (ltb (length (t .table)) (COLUMNS * rowCount (recordsOf t))) ∙ sym (trip-short few (inr (inl h))))
       go (short few (inr (inr h))) =
-          rw (le-ltb _ _ few, lt-leb (CALL-WIDTH * callsOf t) (length (t .callsBack)) h, and-false, and-false) (sym (trip-short few (inr (inr h))))
-      go (passed few room a b) = rw (le-ltb _ _ few, le-leb _ _ room, le-leb _ _ a, le-leb _ _ b) (sym (trip-passed few room a b))
+          rw (le-ltb _ _ few, lt-ltb (length (t .callsBack)) (CALL-WIDTH * callsOf t) h, or-true) (either (ltb (length (t .table)) (COLUMNS * rowCount (recordsOf t))) ∙ sym (trip-short few (inr (inr h))))
+      go (passed few room a b) = rw (le-ltb _ _ few, le-ltb _ _ room, le-ltb _ _ a, le-ltb _ _ b) (sym (trip-passed few room a b))

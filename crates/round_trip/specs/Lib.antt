@@ -1,3 +1,3 @@
 pub mod Trip
-pub mod Decided
+pub mod Legs
 pub mod RoundTrip
