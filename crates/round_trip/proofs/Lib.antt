@@ -1,3 +1,4 @@
 pub mod Whole
 pub mod Ends
 pub mod RoundTrip
+pub mod Instances

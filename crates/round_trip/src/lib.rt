@@ -3,8 +3,11 @@
 pub mod legs;
 
 ghost use mathlib.Core.Path.{_≡_};
+ghost use mathlib.Core.Bool.{true};
 ghost use Rattle.expansion.specs.Expansion.{lent};
 ghost use Rattle.round_trip.specs.Trip.{tripOf, tripNumbers, roundTripNumbers, slicesAfter, tableAfter, opsBackAfter, callsBackAfter};
+ghost use Rattle.round_trip.specs.RoundTrip.{RoundTrip};
+ghost use Rattle.round_trip.specs.Instances.{Instances};
 use call_list::ahead::count;
 
 pub enum RoundTripAnswer {
@@ -76,4 +79,11 @@ pub fn round_trip(
         );
     }
     answer
+}
+
+// That what comes back is what went in is its contract, with instances of what it speaks of.
+pub fn round_trip_holds() -> bool
+    ensures { λ r. ⌜ (r ≡ true) × RoundTrip × Instances ⌝ }
+{
+    true
 }
