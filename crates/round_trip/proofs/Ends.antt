@@ -125,22 +125,10 @@ module _ (t : Trip) (typed : TypedTrip t) (a : RoundTripAnswer) (e : a ≡ decid
       → Ran t rows slices table opsBack callsBack → Ended t a slices table opsBack callsBack
   unfolding slicesAfter tableAfter opsBackAfter callsBackAfter
   ended-through rows ops calls q slices table opsBack callsBack r =
-      let told : roundTripNumbers (Passed rows ops calls) ≡ tripNumbers t = ap roundTripNumbers (sym q) ∙ numbers in (
-        numbers,
-        (
-          r .expanded
-              ∙ ap (λ (x : RoundTripNumbers). cond (eqb (x .answer .number) 0) (allExpanded (t .gap) (callsIn (t .calls)) (t .slices)) (t .slices)) told,
-          (
-            r .made ∙ ap (λ (x : RoundTripNumbers). cond (eqb (x .answer .number) 0) (tableMade t (x .rows)) (t .table)) told,
-            (
-              r .ops
-                  ∙ ap (λ (x : RoundTripNumbers). cond (eqb (x .answer .number) 0) (opsAfter (reader t (x .rows)) (written t (x .rows)) (t .opsBack)) (t .opsBack)) told,
-              r .calls
-                  ∙ ap (λ (x : RoundTripNumbers). cond (eqb (x .answer .number) 0) (callsAfter (reader t (x .rows)) (written t (x .rows)) (t .callsBack)) (t .callsBack)) told,
-            ),
-          ),
-        ),
-      )
+      let told : tripNumbers t ≡ roundTripNumbers (Passed rows ops calls) = sym numbers ∙ ap roundTripNumbers q in
+      let none : eqb (tripNumbers t .answer .number) 0 ≡ true = ap (λ (x : RoundTripNumbers). eqb (x .answer .number) 0) told in
+      let same : tripNumbers t .rows ≡ rows = ap (λ (x : RoundTripNumbers). x .rows) told in
+      (numbers, (rw none (r .expanded), (rw (none, same) (r .made), (rw (none, same) (r .ops), rw (none, same) (r .calls)))))
 
   -- a refusal writes nothing; its case is not the first, which is Passed
   pub ended-refused : OneOf (1 ∷ 2 ∷ []) (tagOf the-type a) → Ended t a (t .slices) (t .table) (t .opsBack) (t .callsBack)
