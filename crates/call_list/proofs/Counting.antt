@@ -1,9 +1,8 @@
 -- The loop that counts records and calls: what is counted so far, and what the calls from here on add, is the whole. Assumes nothing.
-use mathlib.Core.Path.{_≡_, refl, sym, ap, _∙_}
+use mathlib.Core.Path.{_≡_, sym, ap, _∙_}
 use mathlib.Core.Bool.{Bool, true, false, cond}
-use mathlib.Core.List.{List, [], _∷_}
+use mathlib.Core.List.{List, _∷_}
 use Prim.Native.Nat.{ℕ, _+_, _-_, _*_, _/_, _≤_, _<_}
-use native.Mathlib.Nat.{sub-zero}
 use native.Mathlib.Omega.{arith}
 use lib.Dec.{ltb}
 use lib.ListN.{length, drop}
@@ -42,8 +41,8 @@ module _ (gap : ℕ) (calls : List ℕ) (cells stamped room space : ℕ) where
 
   module _ (n ops accepted k : ℕ) (at : CountAt gap n calls cells stamped room space ops accepted k) where
     pub count-turn : k < n → (c : Call) → c ≡ firstCall (drop (CALL-WIDTH * k) calls)
-        → (added accepted′ : ℕ) → added ≡ recordsOf gap c cells stamped (room - OP-WIDTH * ops) space → OP-WIDTH * added ≤ room - OP-WIDTH * ops
-        → accepted′ ≡ accepted + cond (ltb 0 added) 1 0
+        → (added accepted′ : ℕ) → added ≡ recordsOf gap c cells stamped (room - OP-WIDTH * ops) space
+        → OP-WIDTH * added ≤ room - OP-WIDTH * ops → accepted′ ≡ accepted + cond (ltb 0 added) 1 0
         → CountAt gap n calls cells stamped room space (ops + added) accepted′ (k + 1)
     unfolding allRecords allCalls
     count-turn h c e added accepted′ is room-left one =
@@ -69,7 +68,8 @@ module _ (gap : ℕ) (calls : List ℕ) (cells stamped room space : ℕ) where
         }
 
     pub count-end : n ≤ k
-        → (ops ≡ allRecords gap (callsIn calls) cells stamped room space) × (accepted ≡ allCalls gap (callsIn calls) cells stamped room space)
+        → (ops ≡ allRecords gap (callsIn calls) cells stamped room space)
+        × (accepted ≡ allCalls gap (callsIn calls) cells stamped room space)
     unfolding allRecords allCalls
     count-end h =
         let none = walk-end calls n k h in

@@ -1,6 +1,6 @@
 -- The loop that expands calls one by one: finishing from here gives the whole. Assumes nothing.
 use mathlib.Core.Path.{_≡_, refl, sym, ap, _∙_}
-use mathlib.Core.List.{List, [], _∷_, _++_, flatMap}
+use mathlib.Core.List.{List, _∷_, flatMap}
 use Prim.Native.Nat.{ℕ, _+_, _-_, _*_, _/_, _≤_, _<_}
 use native.Mathlib.Omega.{arith}
 use lib.ListN.{length, drop}
@@ -86,6 +86,9 @@ module _ (gap : ℕ) (calls bytes₀ stamps₀ ops₀ accesses₀ : List ℕ) wh
     unfolding allExpanded triesOf lastLeaves flatMap
     going-end h =
         let none = walk-end calls n k h in
-        let stored = sym (store-none ops (OP-WIDTH * done)) ∙ ap (λ x. store ops (OP-WIDTH * done) (acceptedOps gap (triesOf gap x here))) (sym none) ∙ going .ops-go in
+        let stored =
+        sym (store-none ops (OP-WIDTH * done))
+        ∙ ap (λ x. store ops (OP-WIDTH * done) (acceptedOps gap (triesOf gap x here))) (sym none)
+        ∙ going .ops-go in
         let left = ap (λ x. lastLeaves gap x here) (sym none) ∙ going .left-go in
         λ i. lent (left i .bytes) (left i .stamps) (stored i) (left i .accesses)

@@ -3,15 +3,14 @@ use mathlib.Core.Path.{_≡_, refl, sym, ap, _∙_}
 use mathlib.Core.Bool.{Bool, true, false, cond}
 use mathlib.Core.Logic.{inl, inr}
 use mathlib.Core.List.{List, [], _∷_, _++_, append-nil, flatMap}
-use Prim.Native.Nat.{ℕ, zero, suc, _+_, _-_, _*_, _/_, _≤_, _<_}
-use native.Mathlib.Nat.{sub-zero}
+use Prim.Native.Nat.{ℕ, zero, suc, _+_, _-_, _*_, _≤_, _<_}
 use native.Mathlib.Omega.{arith}
 use borrow.Author.Tests.{ltb-true, ltb-false, lt-ltb, le-ltb}
 use lib.Dec.{eqb, ltb}
 use lib.ListN.{length, take, drop, length-drop, drop-of-length-le}
 use lib.Seq.{take-all, drop-drop, drop-at, length-take-le}
 use Rattle.records.specs.Lists.{store}
-use Rattle.records.proofs.Store.{length-store, store-none, store-eq, store-append, part-store}
+use Rattle.records.proofs.Store.{store-none, store-eq, part-store}
 use Rattle.copy_row.specs.Calls.{Call, kindNumber}
 use Rattle.copy_row.specs.Trace.{OP-WIDTH}
 use Rattle.register_numbers.specs.RegisterNumbers.{kindOf}
@@ -20,7 +19,7 @@ use Rattle.expansion.specs.Refusals.{expansionNumbers}
 use Rattle.expansion.specs.Expansion.{Lent, lent, answerFor, lentAfter}
 use Rattle.read_back.specs.ReadBack.{CALL-WIDTH, callNumbers}
 use Rattle.demand.specs.Demand.{Try, callIn, answered, accepted, opsWritten, acceptedOps, acceptedCalls}
-use Rattle.call_list.specs.CallList.{firstCall, callsFrom, callsIn, tryOf, handed, leaves, next, triesOf, lastLeaves, allExpanded, Turned}
+use Rattle.call_list.specs.CallList.{tryOf, handed, leaves, next, triesOf, lastLeaves, Turned}
 use Rattle.call_list.specs.Counts.{recordsOf}
 use Rattle.call_list.proofs.OneCall.{outcome, bytes-length, stamps-length, accesses-length, ops-length, records-length, calls-length, records-stored}
 
@@ -32,12 +31,14 @@ module _ (gap : ℕ) where
   accepted-append (t ∷ xs) ys = go (eqb (answered gap t .number) 0) (accepted-append xs ys)
     where
       go : (b : Bool) → accepted gap (xs ++ ys) ≡ accepted gap xs ++ accepted gap ys
-          → cond b (t ∷ accepted gap (xs ++ ys)) (accepted gap (xs ++ ys)) ≡ cond b (t ∷ accepted gap xs) (accepted gap xs) ++ accepted gap ys
+          → cond b (t ∷ accepted gap (xs ++ ys)) (accepted gap (xs ++ ys))
+          ≡ cond b (t ∷ accepted gap xs) (accepted gap xs) ++ accepted gap ys
       go true later = ap (λ (l : List Try). t ∷ l) later
       go false later = later
 
   pub ops-append : (xs ys : List Try) → acceptedOps gap (xs ++ ys) ≡ acceptedOps gap xs ++ acceptedOps gap ys
-  ops-append xs ys = ap (flatMap (opsWritten gap)) (accepted-append xs ys) ∙ flatMap-append (opsWritten gap) (accepted gap xs) (accepted gap ys)
+  ops-append xs ys =
+      ap (flatMap (opsWritten gap)) (accepted-append xs ys) ∙ flatMap-append (opsWritten gap) (accepted gap xs) (accepted gap ys)
 
   pub calls-append : (xs ys : List Try) → acceptedCalls gap (xs ++ ys) ≡ acceptedCalls gap xs ++ acceptedCalls gap ys
   calls-append xs ys =
@@ -138,7 +139,9 @@ module _ (gap : ℕ) (c : Call) (l : Lent) where
   next-ops =
       either _
       (λ h. rw (none-next h, none-added h) (omega arith))
-      (λ h. rw (one-next h, one-added h) (simp length-drop (ap (λ n. n - OP-WIDTH * answered gap (tryOf c l) .value) (ops-length gap (tryOf c l)))))
+      (λ h.
+      rw (one-next h, one-added h)
+      (simp length-drop (ap (λ n. n - OP-WIDTH * answered gap (tryOf c l) .value) (ops-length gap (tryOf c l)))))
 
 -- A list of calls
 
@@ -147,7 +150,8 @@ module _ (gap : ℕ) (c : Call) (cs : List Call) (l : Lent) where
   unfolding triesOf
   more-ops = ops-append gap (handed c l) (triesOf gap cs (next gap c l))
 
-  pub more-calls : acceptedCalls gap (triesOf gap (c ∷ cs) l) ≡ acceptedCalls gap (handed c l) ++ acceptedCalls gap (triesOf gap cs (next gap c l))
+  pub more-calls : acceptedCalls gap (triesOf gap (c ∷ cs) l)
+      ≡ acceptedCalls gap (handed c l) ++ acceptedCalls gap (triesOf gap cs (next gap c l))
   unfolding triesOf
   more-calls = calls-append gap (handed c l) (triesOf gap cs (next gap c l))
 
@@ -185,7 +189,8 @@ module _ (gap : ℕ) (c : Call) (done : ℕ) (bytes stamps ops accesses : List �
 
   -- behind the records of this call stands what it leaves of the part that was lent
   part-left : (part : List ℕ) (r : ℕ)
-      → drop (OP-WIDTH * (done + r)) (take (OP-WIDTH * done) ops ++ (part ++ drop (length ops - OP-WIDTH * done) (drop (OP-WIDTH * done) ops)))
+      → drop (OP-WIDTH * (done + r))
+      (take (OP-WIDTH * done) ops ++ (part ++ drop (length ops - OP-WIDTH * done) (drop (OP-WIDTH * done) ops)))
       ≡ drop (OP-WIDTH * r) part
   part-left part r =
       let p = OP-WIDTH * done in
@@ -205,7 +210,8 @@ module _ (gap : ℕ) (c : Call) (done : ℕ) (bytes stamps ops accesses : List �
 
   part-whole : lent bytes stamps part accesses ≡ here
   part-whole =
-      ap (λ x. lent bytes stamps x accesses) (take-all (length ops - OP-WIDTH * done) (drop (OP-WIDTH * done) ops) (omega (arith, length-drop (OP-WIDTH * done) ops)))
+      let long : length (drop (OP-WIDTH * done) ops) ≤ length ops - OP-WIDTH * done = omega (arith, length-drop (OP-WIDTH * done) ops) in
+      ap (λ x. lent bytes stamps x accesses) (take-all (length ops - OP-WIDTH * done) (drop (OP-WIDTH * done) ops) long)
 
   pub turned-one : c .kind ≤ 2 → (bytes′ stamps′ part′ accesses′ : List ℕ) (r : ℕ)
       → r ≡ expansionNumbers (answerFor 65536 gap c (lent bytes stamps part accesses)) .answer .value
@@ -216,12 +222,15 @@ module _ (gap : ℕ) (c : Call) (done : ℕ) (bytes stamps ops accesses : List �
   turned-one h bytes′ stamps′ part′ accesses′ r e after =
       let p = OP-WIDTH * done in
       let t = tryOf c here in
+      let all = lentAfter 65536 gap (callIn t) here in
       let xs = acceptedOps gap (t ∷ []) in
       let value : r ≡ answered gap t .value =
       e ∙ ap (λ (x : Lent). expansionNumbers (answerFor 65536 gap c x) .answer .value) part-whole
       ∙ ap (λ (x : Call). expansionNumbers (answerFor 65536 gap x here) .answer .value) (sym (call-same c here h)) in
       let left-by : lent bytes′ stamps′ part′ accesses′ ≡ lentAfter 65536 gap (callIn t) here =
-      after ∙ ap (λ (x : Lent). lentAfter 65536 gap c x) part-whole ∙ ap (λ (x : Call). lentAfter 65536 gap x here) (sym (call-same c here h)) in
+      after
+      ∙ ap (λ (x : Lent). lentAfter 65536 gap c x) part-whole
+      ∙ ap (λ (x : Call). lentAfter 65536 gap x here) (sym (call-same c here h)) in
       let stored-part : part′ ≡ store (drop p ops) 0 xs = ap (λ (x : Lent). x .ops) left-by ∙ records-stored gap t in
       let wide : length xs ≡ OP-WIDTH * r = records-length gap t ∙ ap (λ n. OP-WIDTH * n) (sym value) in
       let room = added-room gap c here in
@@ -237,6 +246,6 @@ module _ (gap : ℕ) (c : Call) (done : ℕ) (bytes stamps ops accesses : List �
         left =
             ap (λ x. lent bytes′ stamps′ x accesses′) (part-left part′ r)
             ∙ ap (λ (x : Lent). lent (x .bytes) (x .stamps) (drop (OP-WIDTH * r) (x .ops)) (x .accesses)) left-by
-            ∙ ap (λ n. let x = lentAfter 65536 gap (callIn t) here in lent (x .bytes) (x .stamps) (drop (OP-WIDTH * n) (x .ops)) (x .accesses)) value
+            ∙ ap (λ n. lent (all .bytes) (all .stamps) (drop (OP-WIDTH * n) (all .ops)) (all .accesses)) value
             ∙ sym (one-next gap c here h);
       }

@@ -1,35 +1,32 @@
 -- Laws of one call: what it adds, and what it leaves to the next. A refused call adds nothing and leaves all as it was; an accepted one
 -- stores its records at the front of its buffer. Assumes nothing.
 use mathlib.Core.Path.{_≡_, refl, sym, ap, _∙_}
-use mathlib.Core.Bool.{Bool, true, false, cond}
+use mathlib.Core.Bool.{true, false, cond}
 use mathlib.Core.Logic.{_⊎_, inl, inr}
-use mathlib.Core.List.{List, [], _∷_, _++_, append-nil, flatMap}
-use Prim.Native.Nat.{ℕ, zero, suc, _+_, _-_, _*_, _≤_, _<_}
+use mathlib.Core.List.{List, [], _∷_, append-nil, flatMap}
+use Prim.Native.Nat.{ℕ, zero, suc, _-_, _*_, _≤_, _<_}
 use native.Mathlib.Omega.{arith}
 use borrow.Author.Tests.{eqb-true, lt-ltb, eq-eqb, ne-eqb}
 use lib.Dec.{eqb, ltb}
-use lib.ListN.{length, take, drop, length-append, length-drop}
+use lib.ListN.{length}
 use lib.Seq.{length-take-le}
 use Rattle.records.specs.Lists.{store}
 use Rattle.records.proofs.Store.{length-store}
-use Rattle.copy_row.specs.Calls.{Call, kindNumber, opRecord}
+use Rattle.copy_row.specs.Calls.{Call}
 use Rattle.copy_row.specs.Trace.{OP-WIDTH}
-use Rattle.register_numbers.specs.RegisterNumbers.{kindOf}
 use Rattle.window.specs.Window.{windowOf}
 use Rattle.expansion_rows.specs.Rows.{copyRowWidth, Row, rowsOf}
 use Rattle.expansion_rows.specs.Turns.{passBytes, passStamps}
 use Rattle.expansion_rows.proofs.RowList.{rows-next}
 use Rattle.expansion_rows.proofs.Lengths.{pass-bytes-length, pass-stamps-length, held-bytes-length, held-stamps-length}
 use Rattle.expansion.specs.Refusals.{opCount, expansionAnswer, expansionNumbers}
-use Rattle.expansion.specs.Expansion.{Lent, callOps, callBytes, callStamps, deferred, expanded, answerFor, ifExpanded, lentAfter}
+use Rattle.expansion.specs.Expansion.{Lent, callBytes, callStamps, deferred, expanded, answerFor, ifExpanded, lentAfter}
 use Rattle.expansion.specs.declared.ExpansionAnswer.{ExpansionAnswer}
 use Rattle.expansion.specs.declared.ExpansionAnswer.the-variants.{Expanded, GapTooLarge, BadWindow, LastStamp, NotGapApart, PastIndex, OutsideWindow, BufferShort}
 use Rattle.expansion.proofs.Judged.{accepted-is}
 use Rattle.read_back.specs.ReadBack.{CALL-WIDTH}
-use Rattle.demand.specs.Demand.{Try, callIn, answered, accepted, opsWritten, acceptedOps, acceptedCalls}
+use Rattle.demand.specs.Demand.{Try, callIn, answered, opsWritten, acceptedOps, acceptedCalls}
 use Rattle.demand.proofs.AcceptedCalls.{ops-written}
-use Rattle.call_list.specs.CallList.{tryOf, handed, leaves, next}
-use Rattle.call_list.specs.Counts.{recordsOf}
 
 -- A call that went to the expansion
 
@@ -60,7 +57,8 @@ pub value-room : (gap : ℕ) (c : Call) (cells stamped room space : ℕ)
     → OP-WIDTH * expansionNumbers (expansionAnswer 65536 gap c cells stamped room space) .answer .value ≤ room
 value-room gap c cells stamped room space = go (expansionAnswer 65536 gap c cells stamped room space) refl
   where
-    go : (a : ExpansionAnswer) → expansionAnswer 65536 gap c cells stamped room space ≡ a → OP-WIDTH * expansionNumbers a .answer .value ≤ room
+    go : (a : ExpansionAnswer) → expansionAnswer 65536 gap c cells stamped room space ≡ a
+        → OP-WIDTH * expansionNumbers a .answer .value ≤ room
     go (Expanded ops accesses) e =
         let made = accepted-is 65536 gap c cells stamped room space ops accesses e in
         omega (arith, made .ops-are, made .ops-fit)
@@ -97,7 +95,8 @@ module _ (gap : ℕ) (t : Try) where
     where
       go : (a : ExpansionAnswer) → answerFor 65536 gap c l ≡ a → Refused gap t ⊎ Taken gap t
       go (Expanded ops accesses) e =
-          let made = accepted-is 65536 gap c (length (l .bytes)) (length (l .stamps)) (length (l .ops)) (length (l .accesses)) ops accesses e in
+          let made =
+          accepted-is 65536 gap c (length (l .bytes)) (length (l .stamps)) (length (l .ops)) (length (l .accesses)) ops accesses e in
           let value : answered gap t .value ≡ ops = ap (λ (x : ExpansionAnswer). expansionNumbers x .answer .value) e in
           inr
           (record {
@@ -131,7 +130,8 @@ module _ (gap : ℕ) (t : Try) where
   stamps-length = go outcome
     where
       call-stamps : length (callStamps c (windowOf (l .bytes) (l .stamps))) ≡ length (l .stamps)
-      call-stamps = held-stamps-length (deferred c (l .bytes)) (passStamps (rowsOf c) (l .stamps)) ∙ pass-stamps-length (rowsOf c) (l .stamps)
+      call-stamps =
+          held-stamps-length (deferred c (l .bytes)) (passStamps (rowsOf c) (l .stamps)) ∙ pass-stamps-length (rowsOf c) (l .stamps)
 
       go : Refused gap t ⊎ Taken gap t → length (lentAfter 65536 gap c l .stamps) ≡ length (l .stamps)
       go (inl r) = ap (λ (x : Lent). length (x .stamps)) (r .kept)

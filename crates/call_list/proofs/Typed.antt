@@ -1,11 +1,9 @@
 -- What the types of the code say holds of every call that goes to the expansion: its numbers have 64 bits, and the window that it finds
 -- holds bytes. Assumes nothing.
-use mathlib.Core.Path.{_≡_, refl, sym, ap, _∙_}
 use mathlib.Core.Bool.{Bool, true, false, cond}
 use mathlib.Core.Logic.{_⊎_, inl, inr}
 use mathlib.Core.List.{List, [], _∷_, _++_}
 use Prim.Native.Nat.{ℕ, zero, suc, _+_, _^_, _<_}
-use native.Mathlib.Omega.{arith}
 use lib.Dec.{eqb, ltb}
 use lib.ListN.{getD, drop}
 use lib.Seq.{getD-drop}
@@ -21,7 +19,7 @@ use Rattle.expansion_cut.proofs.Bytes.{bytes-take, bytes-store, bytes-turn}
 use Rattle.expansion.specs.Expansion.{Lent, callBytes, expanded, lentAfter}
 use Rattle.read_back.specs.ReadBack.{CALL-WIDTH}
 use Rattle.demand.specs.Demand.{Try, Typed, callIn}
-use Rattle.call_list.specs.CallList.{firstCall, callsFrom, tryOf, handed, leaves, next, triesOf}
+use Rattle.call_list.specs.CallList.{callsFrom, tryOf, handed, leaves, next, triesOf}
 use Rattle.call_list.proofs.OneCall.{Refused, Taken, outcome}
 
 -- The window
@@ -50,7 +48,8 @@ unfolding callBytes heldAllBytes
 call-bytes c bytes h = go (eqb (c .kind) 0)
   where
     go : (b : Bool) → Bytes (heldAllBytes (cond b (rowOps (rowsOf c) bytes) []) (passBytes (rowsOf c) bytes))
-    go true = held-bytes (rowOps (rowsOf c) bytes) (passBytes (rowsOf c) bytes) (op-bytes (rowsOf c) bytes h) (pass-bytes (rowsOf c) bytes h)
+    go true =
+        held-bytes (rowOps (rowsOf c) bytes) (passBytes (rowsOf c) bytes) (op-bytes (rowsOf c) bytes h) (pass-bytes (rowsOf c) bytes h)
     go false = pass-bytes (rowsOf c) bytes h
 
 -- Calls
@@ -62,7 +61,8 @@ Wide c = (c .stamp < 2 ^ 64) × (c .src < 2 ^ 64) × (c .dst < 2 ^ 64) × (c .co
 pub calls-wide : (n : ℕ) (l : List ℕ) → ((i : ℕ) → getD l i 0 < 2 ^ 64) → All Wide (callsFrom n l)
 unfolding callsFrom
 calls-wide zero l h = tt
-calls-wide (suc n) l h = ((h 1, h 2, h 3, h 4), calls-wide n (drop CALL-WIDTH l) (λ i. rw (getD-drop CALL-WIDTH l i 0) (h (CALL-WIDTH + i))))
+calls-wide (suc n) l h =
+    ((h 1, h 2, h 3, h 4), calls-wide n (drop CALL-WIDTH l) (λ i. rw (getD-drop CALL-WIDTH l i 0) (h (CALL-WIDTH + i))))
 
 module _ (gap : ℕ) where
   after-bytes : (t : Try) → Bytes (t .slices .bytes) → Bytes (lentAfter 65536 gap (callIn t) (t .slices) .bytes)

@@ -1,15 +1,15 @@
 -- What the code needs: what `decide` has found out where it answers a pass, what the parts that `run` lends are, and how a trip ends.
 -- Assumes nothing.
-use mathlib.Core.Path.{_≡_, refl, sym, ap, ap₂, _∙_}
+use mathlib.Core.Path.{_≡_, refl, sym, ap, _∙_}
 use mathlib.Core.Bool.{Bool, true, false, cond, _||_}
-use mathlib.Core.List.{List, [], _∷_, _++_}
-use Prim.Native.Nat.{ℕ, _+_, _-_, _*_, _≤_, _<_}
+use mathlib.Core.List.{List, [], _∷_}
+use Prim.Native.Nat.{ℕ, _-_, _*_, _≤_}
 use native.Mathlib.Nat.{sub-zero}
 use native.Mathlib.Omega.{arith}
 use borrow.Author.Tests.{ltb-false}
 use denote.Enum.Declared.{tagOf}
 use lib.Dec.{ltb, eqb}
-use lib.ListN.{length, take, drop}
+use lib.ListN.{length, take}
 use lib.Seq.{take-at}
 use types.Run.{OneOf, miss}
 use Rattle.records.specs.Lists.{store}
@@ -22,15 +22,16 @@ use Rattle.copy_row.specs.Trace.{OP-WIDTH, copyAnswer, copyAfter}
 use Rattle.copy_row.proofs.CopyTable.{made-facts, after-length}
 use Rattle.expansion.specs.Expansion.{Lent}
 use Rattle.read_back.specs.ReadBack.{CALL-WIDTH, readBackAnswer, opsAfter, callsAfter}
+use Rattle.read_back.specs.declared.ReadBackAnswer.{ReadBackAnswer}
 use Rattle.call_list.specs.CallList.{callsIn, allExpanded}
 use Rattle.call_list.proofs.Counted.{records-fit}
-use Rattle.round_trip.specs.Trip.{Trip, recordsIn, maker, tableMade, written, reader, RoundTripNumbers, tripNumbers, roundTripNumbers, slicesAfter, tableAfter, opsBackAfter, callsBackAfter}
+use Rattle.round_trip.specs.Trip.{Trip, recordsIn, maker, tableMade, written, RoundTripNumbers, tripNumbers, roundTripNumbers, slicesAfter, tableAfter, opsBackAfter, callsBackAfter}
 use Rattle.round_trip.specs.Legs.{decided, Ran}
 use Rattle.round_trip.specs.RoundTrip.{TypedTrip}
 use Rattle.round_trip.specs.declared.RoundTripAnswer.{RoundTripAnswer}
 use Rattle.round_trip.specs.declared.RoundTripAnswer.the-variants.{Passed, TooManyRecords, BufferShort}
 use Rattle.round_trip.proofs.RoundTripAnswer.{the-type}
-use Rattle.round_trip.proofs.Whole.{recordsOf, callsOf, records-length, made, decided-is}
+use Rattle.round_trip.proofs.Whole.{records-length, decidedOf, made, decided-is}
 
 -- `decide`
 
@@ -48,12 +49,13 @@ module _ (n m tableRoom opsRoom callsRoom : ℕ) where
   decided-found rows ops calls e = go _ _ (ltb opsRoom (OP-WIDTH * n) || ltb callsRoom (CALL-WIDTH * m)) refl refl e
     where
       go : (x y z : Bool) → ltb 65536 n ≡ x → ltb tableRoom (COLUMNS * rowCount n) ≡ y
-          → cond x TooManyRecords (cond y BufferShort (cond z BufferShort (Passed (rowCount n) n m))) ≡ Passed rows ops calls → Found rows ops calls
+          → cond x TooManyRecords (cond y BufferShort (cond z BufferShort (Passed (rowCount n) n m))) ≡ Passed rows ops calls
+          → Found rows ops calls
       go true y z p q e = let never : _≡_ {A = ℕ} 0 1 = cc in absurd (omega arith)
       go false true z p q e = let never : _≡_ {A = ℕ} 0 1 = cc in absurd (omega arith)
       go false false true p q e = let never : _≡_ {A = ℕ} 0 1 = cc in absurd (omega arith)
       go false false false p q e =
-          record { few = ltb-false 65536 n p; rows-are = cc; ops-are = cc; calls-are = cc; room = ltb-false tableRoom (COLUMNS * rowCount n) q }
+          record { few = ltb-false 65536 n p; rows-are = cc; ops-are = cc; calls-are = cc; room = ltb-false tableRoom _ q }
 
 -- `run`
 
@@ -78,7 +80,10 @@ module _ (t : Trip) (n rows : ℕ) (tabled : maker t ≡ Made rows) (wide : leng
         (ap (take (OP-WIDTH * n)) (stored ∙ store-eq (t .slices .ops) 0 (recordsIn t) (omega (arith, ops-room)))
         ∙ take-at (recordsIn t) _ (OP-WIDTH * n) wide)
 
-    module _ (table : List ℕ) (written-table : table ≡ copyAfter (take (OP-WIDTH * n - 0) (slices .ops)) (copyAnswer 65536 (take (OP-WIDTH * n - 0) (slices .ops)) (length (t .table))) (t .table)) where
+    module _
+        (table : List ℕ)
+        (written-table : let part = take (OP-WIDTH * n - 0) (slices .ops) in
+        table ≡ copyAfter part (copyAnswer 65536 part (length (t .table))) (t .table)) where
       made-table : table ≡ tableMade t rows
       made-table =
           written-table
@@ -94,13 +99,15 @@ module _ (t : Trip) (n rows : ℕ) (tabled : maker t ≡ Made rows) (wide : leng
 
       pub ran : (opsBack callsBack : List ℕ) → let l = take (COLUMNS * rows - 0) table in
           let answer = readBackAnswer (t .gap) l (length (t .opsBack)) (length (t .callsBack)) in
-          opsBack ≡ opsAfter answer l (t .opsBack) → callsBack ≡ callsAfter answer l (t .callsBack) → Ran t rows slices table opsBack callsBack
+          opsBack ≡ opsAfter answer l (t .opsBack) → callsBack ≡ callsAfter answer l (t .callsBack)
+          → Ran t rows slices table opsBack callsBack
       ran opsBack callsBack a b =
+          let told : List ℕ → ReadBackAnswer = λ l. readBackAnswer (t .gap) l (length (t .opsBack)) (length (t .callsBack)) in
           record {
             expanded = expanded;
             made = made-table;
-            ops = a ∙ ap (λ l. opsAfter (readBackAnswer (t .gap) l (length (t .opsBack)) (length (t .callsBack))) l (t .opsBack)) lent-rows;
-            calls = b ∙ ap (λ l. callsAfter (readBackAnswer (t .gap) l (length (t .opsBack)) (length (t .callsBack))) l (t .callsBack)) lent-rows;
+            ops = a ∙ ap (λ l. opsAfter (told l) l (t .opsBack)) lent-rows;
+            calls = b ∙ ap (λ l. callsAfter (told l) l (t .callsBack)) lent-rows;
           }
 
 -- `round_trip`
@@ -111,14 +118,14 @@ Ended t a slices table opsBack callsBack =
     (roundTripNumbers a ≡ tripNumbers t)
     × ((slices ≡ slicesAfter t) × ((table ≡ tableAfter t) × ((opsBack ≡ opsBackAfter t) × (callsBack ≡ callsBackAfter t))))
 
-module _ (t : Trip) (typed : TypedTrip t) (a : RoundTripAnswer) (e : a ≡ decided (recordsOf t) (callsOf t) (length (t .table)) (length (t .opsBack)) (length (t .callsBack))) where
+module _ (t : Trip) (typed : TypedTrip t) (a : RoundTripAnswer) (e : a ≡ decidedOf t) where
   numbers : roundTripNumbers a ≡ tripNumbers t
   numbers = ap roundTripNumbers e ∙ decided-is t typed
 
   -- `run` may go on
   pub may-run : (rows ops calls : ℕ) → a ≡ Passed rows ops calls → (maker t ≡ Made rows) × (length (recordsIn t) ≡ OP-WIDTH * ops)
   may-run rows ops calls q =
-      let f = decided-found (recordsOf t) (callsOf t) (length (t .table)) (length (t .opsBack)) (length (t .callsBack)) rows ops calls (sym e ∙ q) in
+      let f = decided-found _ _ _ _ _ rows ops calls (sym e ∙ q) in
       (made t typed (f .few) (f .room) ∙ ap Made (sym (f .rows-are)), records-length t ∙ ap (λ n. OP-WIDTH * n) (sym (f .ops-are)))
 
   pub ended-through : (rows ops calls : ℕ) → a ≡ Passed rows ops calls → (slices : Lent) (table opsBack callsBack : List ℕ)
@@ -135,7 +142,8 @@ module _ (t : Trip) (typed : TypedTrip t) (a : RoundTripAnswer) (e : a ≡ decid
   unfolding slicesAfter tableAfter opsBackAfter callsBackAfter
   ended-refused h =
       let told = numbers in
-      let other : eqb (tripNumbers t .answer .number) 0 ≡ false = ap (λ (x : RoundTripNumbers). eqb (x .answer .number) 0) (sym told) ∙ go a h in
+      let other : eqb (tripNumbers t .answer .number) 0 ≡ false =
+      ap (λ (x : RoundTripNumbers). eqb (x .answer .number) 0) (sym told) ∙ go a h in
       (told, (rw other, (rw other, (rw other, rw other))))
     where
       go : (b : RoundTripAnswer) → OneOf (1 ∷ 2 ∷ []) (tagOf the-type b) → eqb (roundTripNumbers b .answer .number) 0 ≡ false

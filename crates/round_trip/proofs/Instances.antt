@@ -56,9 +56,9 @@ unfolding flatMap addP subP mulP bitP carryP carryLow carryHigh store flat picke
     incrHigh decrLow decrHigh resLow resHigh gapLow gapHigh borrow impliesMu oneHot firstWrite gatedBit dstResNonWrite singleLane
     borrowImplies borrowImpliesZero endImplies muComIs muComWideIs noWrap gapNoWrap residue firstResidue rowFault same linked before
     rowsFrom chainFrom chainAnswer opsCount callsCount readOps readCalls roomAnswer readBackAnswer callsAfter cellsAt writeBytes writeStamps
-    copyRowWidth rowsWithin call.rowsFrom turnBytes turnStamps turnAccesses rowOps passBytes passStamps passAccesses heldAllBytes heldAllStamps
-    heldAccesses refusals expansionAnswer callOps callBytes callStamps callAccesses expanded lentAfter callsFrom callsIn handed leaves next
-    triesOf tripNumbers callsBackAfter
+    copyRowWidth rowsWithin call.rowsFrom turnBytes turnStamps turnAccesses rowOps passBytes passStamps passAccesses heldAllBytes
+    heldAllStamps heldAccesses refusals expansionAnswer callOps callBytes callStamps callAccesses expanded lentAfter callsFrom callsIn
+    handed leaves next triesOf tripNumbers callsBackAfter
 instances =
     record {
       typed = typed;

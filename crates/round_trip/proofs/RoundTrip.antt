@@ -2,20 +2,15 @@
 use mathlib.Core.Path.{_≡_, sym, ap, _∙_, subst}
 use mathlib.Core.Bool.{cond}
 use mathlib.Core.Logic.{_⊎_, inl, inr}
-use Prim.Native.Nat.{ℕ, _*_, _/_, _≤_, _<_}
+use Prim.Native.Nat.{ℕ, _≤_, _<_}
 use native.Mathlib.Omega.{arith}
 use lib.Dec.{eqb}
-use lib.ListN.{length}
-use Rattle.answer.specs.Numbers.{refused}
-use Rattle.records.specs.Lists.{store}
 use Rattle.records.specs.RowCount.{rowCount}
-use Rattle.copy_row.specs.Columns.{COLUMNS}
-use Rattle.copy_row.specs.Trace.{OP-WIDTH}
-use Rattle.read_back.specs.ReadBack.{CALL-WIDTH, opsAfter, callsAfter}
+use Rattle.read_back.specs.ReadBack.{opsAfter, callsAfter}
 use Rattle.demand.specs.Demand.{Passes}
-use Rattle.round_trip.specs.Trip.{Trip, recordsIn, callsHanded, written, reader, RoundTripNumbers, refusedBy, tripNumbers, opsBackAfter, callsBackAfter}
+use Rattle.round_trip.specs.Trip.{Trip, written, reader, RoundTripNumbers, tripNumbers, opsBackAfter, callsBackAfter}
 use Rattle.round_trip.specs.RoundTrip.{TypedTrip, numberOf, recordsCount, rowsCount, Short, CameBack, RoundTrip}
-use Rattle.round_trip.proofs.Whole.{recordsOf, callsOf, records-length, calls-length, through, Way, over, short, passed, way, trip-over, trip-short, trip-passed, by-demand, read-ops, read-calls}
+use Rattle.round_trip.proofs.Whole.{recordsOf, records-length, calls-length, ShortOf, Way, over, short, passed, way, trip-over, trip-short, trip-passed, by-demand, read-ops, read-calls}
 
 module _ (t : Trip) where
   count-is : recordsCount t ≡ recordsOf t
@@ -25,17 +20,12 @@ module _ (t : Trip) where
   rows-are = ap rowCount (sym count-is)
 
   -- a buffer that is short, by the counts and by the lists
-  abbrev ShortOf : Type 0
-  ShortOf =
-      (length (t .table) < COLUMNS * rowCount (recordsOf t))
-      ⊎ (length (t .opsBack) < OP-WIDTH * recordsOf t) ⊎ (length (t .callsBack) < CALL-WIDTH * callsOf t)
-
-  short-lists : ShortOf → Short t
+  short-lists : ShortOf t → Short t
   short-lists (inl h) = inl (omega (arith, rows-are))
   short-lists (inr (inl h)) = inr (inl (omega (arith, records-length t)))
   short-lists (inr (inr h)) = inr (inr (omega (arith, calls-length t)))
 
-  short-counts : Short t → ShortOf
+  short-counts : Short t → ShortOf t
   short-counts (inl h) = inl (omega (arith, rows-are))
   short-counts (inr (inl h)) = inr (inl (omega (arith, records-length t)))
   short-counts (inr (inr h)) = inr (inr (omega (arith, calls-length t)))

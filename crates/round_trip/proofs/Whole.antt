@@ -9,7 +9,7 @@ use mathlib.Core.Option.{none}
 use Prim.Native.Nat.{ℕ, _*_, _/_, _≤_, _<_}
 use native.Mathlib.Omega.{arith}
 use borrow.Author.Tests.{lt-ltb, le-ltb, le-leb, lt-leb, ltb-true, ltb-false, leb-true, leb-false}
-use lib.Dec.{ltb, leb, eqb}
+use lib.Dec.{ltb, leb}
 use lib.ListN.{length}
 use Rattle.answer.specs.Numbers.{accepted, refused}
 use Rattle.records.specs.Lists.{store}
@@ -32,14 +32,14 @@ use Rattle.demand.proofs.Whole.{steps}
 use Rattle.demand.proofs.RowLists.{flatMap-length}
 use Rattle.demand.proofs.GoodRecords.{records-wide, maker-answer}
 use Rattle.demand.proofs.Accepted.{cutTry, tries-fit, tries-wrote}
-use Rattle.call_list.specs.CallList.{callsIn, allExpanded}
+use Rattle.call_list.specs.CallList.{callsIn}
 use Rattle.call_list.proofs.Counted as counted
 use Rattle.call_list.proofs.Typed.{calls-wide, tries-typed}
-use Rattle.round_trip.specs.Trip.{Trip, tries, recordsIn, callsHanded, maker, tableMade, written, reader, RoundTripNumbers, refusedBy, fromReader, onMaker, tripNumbers, roundTripNumbers, slicesAfter, tableAfter, opsBackAfter, callsBackAfter}
+use Rattle.round_trip.specs.Trip.{Trip, tries, recordsIn, callsHanded, maker, written, reader, RoundTripNumbers, refusedBy, fromReader, onMaker, tripNumbers, roundTripNumbers}
 use Rattle.round_trip.specs.Legs.{decided}
 use Rattle.round_trip.specs.RoundTrip.{TypedTrip}
 use Rattle.round_trip.specs.declared.RoundTripAnswer.{RoundTripAnswer}
-use Rattle.round_trip.specs.declared.RoundTripAnswer.the-variants.{Passed, TooManyRecords, BufferShort}
+use Rattle.round_trip.specs.declared.RoundTripAnswer.the-variants.{TooManyRecords, BufferShort}
 
 -- how many records and calls go in
 abbrev pub recordsOf : Trip → ℕ
@@ -58,12 +58,21 @@ calls-length t = counted.calls-counted (t .gap) (callsIn (t .calls)) (t .slices)
 abbrev pub through : Trip → RoundTripNumbers
 through t = record { answer = accepted (recordsOf t); rows = rowCount (recordsOf t); calls = callsOf t }
 
+-- a buffer is short
+abbrev pub ShortOf : Trip → Type 0
+ShortOf t =
+    (length (t .table) < COLUMNS * rowCount (recordsOf t))
+    ⊎ (length (t .opsBack) < OP-WIDTH * recordsOf t)
+    ⊎ (length (t .callsBack) < CALL-WIDTH * callsOf t)
+
+-- the answer by counts
+abbrev pub decidedOf : Trip → RoundTripAnswer
+decidedOf t = decided (recordsOf t) (callsOf t) (length (t .table)) (length (t .opsBack)) (length (t .callsBack))
+
 -- the three ways
 pub data Way (t : Trip) : Type 0 where
   over : 65536 < recordsOf t → Way t
-  short : recordsOf t ≤ 65536
-      → (length (t .table) < COLUMNS * rowCount (recordsOf t)) ⊎ (length (t .opsBack) < OP-WIDTH * recordsOf t) ⊎ (length (t .callsBack) < CALL-WIDTH * callsOf t)
-      → Way t
+  short : recordsOf t ≤ 65536 → ShortOf t → Way t
   passed : recordsOf t ≤ 65536 → COLUMNS * rowCount (recordsOf t) ≤ length (t .table) → OP-WIDTH * recordsOf t ≤ length (t .opsBack)
       → CALL-WIDTH * callsOf t ≤ length (t .callsBack) → Way t
 
@@ -98,13 +107,16 @@ module _ (t : Trip) (typed : TypedTrip t) where
   ops-count =
       omega (arith, flatMap-length OP-WIDTH opRecord (opsOf ks) (records-wide (t .gap) (opsOf ks) live), ap length wrote, records-length t)
 
-  maker-is : maker t
-      ≡ cond (ltb 65536 (recordsOf t)) table.TooManyRecords
-      (cond (leb (COLUMNS * rowCount (recordsOf t)) (length (t .table))) (table.Made (rowCount (recordsOf t))) table.BufferShort)
+  abbrev makerFor : ℕ → TableAnswer
+  makerFor n =
+      cond (ltb 65536 n) table.TooManyRecords
+      (cond (leb (COLUMNS * rowCount n) (length (t .table))) (table.Made (rowCount n)) table.BufferShort)
+
+  maker-is : maker t ≡ makerFor (recordsOf t)
   maker-is =
       ap (λ r. copyAnswer 65536 r (length (t .table))) wrote
       ∙ maker-answer (t .gap) 65536 (length (t .table)) (opsOf ks) live
-      ∙ ap (λ n. cond (ltb 65536 n) table.TooManyRecords (cond (leb (COLUMNS * rowCount n) (length (t .table))) (table.Made (rowCount n)) table.BufferShort)) ops-count
+      ∙ ap makerFor ops-count
 
   pub trip-over : 65536 < recordsOf t → tripNumbers t ≡ refusedBy (refused 8 0)
   unfolding tripNumbers
@@ -163,9 +175,7 @@ module _ (t : Trip) (typed : TypedTrip t) where
         pub read-calls : callsAfter (reader t rows) (written t rows) (t .callsBack) ≡ store (t .callsBack) 0 (callsHanded t)
         read-calls = back .2
 
-  pub trip-short : recordsOf t ≤ 65536
-      → (length (t .table) < COLUMNS * rowCount (recordsOf t)) ⊎ (length (t .opsBack) < OP-WIDTH * recordsOf t) ⊎ (length (t .callsBack) < CALL-WIDTH * callsOf t)
-      → tripNumbers t ≡ refusedBy (refused 9 0)
+  pub trip-short : recordsOf t ≤ 65536 → ShortOf t → tripNumbers t ≡ refusedBy (refused 9 0)
   trip-short few (inl h) = trip-unmade few h
   trip-short few (inr h) = go (leb (COLUMNS * rowCount (recordsOf t)) (length (t .table))) refl
     where
@@ -174,7 +184,10 @@ module _ (t : Trip) (typed : TypedTrip t) where
       go false e = trip-unmade few (leb-false _ _ e)
 
   -- the answer by counts is the answer
-  pub decided-is : roundTripNumbers (decided (recordsOf t) (callsOf t) (length (t .table)) (length (t .opsBack)) (length (t .callsBack))) ≡ tripNumbers t
+  abbrev unmade : Bool
+  unmade = ltb (length (t .table)) (COLUMNS * rowCount (recordsOf t))
+
+  pub decided-is : roundTripNumbers (decidedOf t) ≡ tripNumbers t
   unfolding decided
   decided-is = go (way t)
     where
@@ -182,11 +195,12 @@ module _ (t : Trip) (typed : TypedTrip t) where
       either true = refl
       either false = refl
 
-      go : Way t → roundTripNumbers (decided (recordsOf t) (callsOf t) (length (t .table)) (length (t .opsBack)) (length (t .callsBack))) ≡ tripNumbers t
+      go : Way t → roundTripNumbers (decidedOf t) ≡ tripNumbers t
       go (over h) = rw (lt-ltb _ _ h) (sym (trip-over h))
       go (short few (inl h)) = rw (le-ltb _ _ few, lt-ltb _ _ h) (sym (trip-short few (inl h)))
       go (short few (inr (inl h))) =
-          rw (le-ltb _ _ few, lt-ltb (length (t .opsBack)) (OP-WIDTH * recordsOf t) h) (either (ltb (length (t .table)) (COLUMNS * rowCount (recordsOf t))) ∙ sym (trip-short few (inr (inl h))))
+          rw (le-ltb _ _ few, lt-ltb (length (t .opsBack)) (OP-WIDTH * recordsOf t) h) (either unmade ∙ sym (trip-short few (inr (inl h))))
       go (short few (inr (inr h))) =
-          rw (le-ltb _ _ few, lt-ltb (length (t .callsBack)) (CALL-WIDTH * callsOf t) h, or-true) (either (ltb (length (t .table)) (COLUMNS * rowCount (recordsOf t))) ∙ sym (trip-short few (inr (inr h))))
+          rw (le-ltb _ _ few, lt-ltb (length (t .callsBack)) (CALL-WIDTH * callsOf t) h, or-true)
+          (either unmade ∙ sym (trip-short few (inr (inr h))))
       go (passed few room a b) = rw (le-ltb _ _ few, le-ltb _ _ room, le-ltb _ _ a, le-ltb _ _ b) (sym (trip-passed few room a b))

@@ -2,7 +2,6 @@
 -- composition in Trip.antt; this is what demand 3 makes of it. Assumes nothing.
 use mathlib.Core.Path.{_≡_}
 use mathlib.Core.Logic.{_⊎_, _↔_}
-use mathlib.Core.List.{List}
 use Prim.Native.Nat.{ℕ, _*_, _/_, _^_, _≤_, _<_}
 use lib.ListN.{length, getD}
 use Rattle.records.specs.Lists.{store}
@@ -33,7 +32,9 @@ rowsCount t = rowCount (recordsCount t)
 -- whether a buffer is shorter than what goes into it: the table, or one of read-back's
 abbrev pub Short : Trip → Type 0
 Short t =
-    (length (t .table) < COLUMNS * rowsCount t) ⊎ (length (t .opsBack) < length (recordsIn t)) ⊎ (length (t .callsBack) < length (callsHanded t))
+    (length (t .table) < COLUMNS * rowsCount t)
+    ⊎ (length (t .opsBack) < length (recordsIn t))
+    ⊎ (length (t .callsBack) < length (callsHanded t))
 
 -- where nothing is refused
 pub record CameBack (t : Trip) : Type 0 where

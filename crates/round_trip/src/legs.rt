@@ -11,7 +11,7 @@ ghost use Rattle.round_trip.specs.Trip.{tripOf, recordsIn, maker};
 ghost use Rattle.round_trip.specs.Legs.{decided, Ran};
 use crate::RoundTripAnswer;
 use call_list::turns::expand_all;
-use copy_row::trace::make;
+use copy_row::generate_copy_trace;
 use read_back::read_back;
 use records::lists::row_count;
 
@@ -43,7 +43,8 @@ pub fn decide(
     }
 }
 
-// Expands the calls, makes the table of the `n` records, checks its `rows` rows and reads them back.
+// Expands the calls, makes the table of the `n` records, checks its `rows` rows and reads them back. The maker's and read-back's answers
+// are not looked at: `decide` has told them.
 pub fn run(
     gap: u64,
     n: usize,
@@ -61,6 +62,6 @@ pub fn run(
     ensures { λ _. ⌜ Ran (tripOf gap (now (calls .entry)) (now (bytes .entry)) (now (stamps .entry)) (now (ops .entry)) (now (accesses .entry)) (now (table .entry)) (now («ops_back» .entry)) (now («calls_back» .entry))) rows (lent (now (bytes .exit)) (now (stamps .exit)) (now (ops .exit)) (now (accesses .exit))) (now (table .exit)) (now («ops_back» .exit)) (now («calls_back» .exit)) ⌝ }
 {
     expand_all(gap, calls, bytes, stamps, ops, accesses);
-    make(65536, &ops[0..16 * n], table);
+    generate_copy_trace(&ops[0..16 * n], table);
     read_back(gap, &table[0..41 * rows], ops_back, calls_back);
 }

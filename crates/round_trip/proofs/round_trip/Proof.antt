@@ -9,7 +9,7 @@ use lib.ListN.{length}
 use Rattle.round_trip.specs.Trip.{Trip, tripOf}
 use Rattle.round_trip.specs.Legs.{decided}
 use Rattle.round_trip.specs.RoundTrip.{TypedTrip}
-use Rattle.round_trip.proofs.Whole.{recordsOf, callsOf}
+use Rattle.round_trip.proofs.Whole.{decidedOf}
 use Rattle.round_trip.proofs.Ends.{may-run, ended-through, ended-refused}
 use Rattle.round_trip.proofs.round_trip.Statement.{statement}
 use Rattle.round_trip.proofs.round_trip.Tie as tie
@@ -21,7 +21,8 @@ started c = c .before .before .before .before .before .before .before .before
 abbrev trip-at : tie.After-slice-known → Trip
 trip-at c =
     let a = c .before .before .args in
-    tripOf (a .gap) (now (a .calls)) (now (a .bytes)) (now (a .stamps)) (now (a .ops)) (now (a .accesses)) (now (a .table)) (now (a .ops-back)) (now (a .calls-back))
+    tripOf (a .gap) (now (a .calls)) (now (a .bytes)) (now (a .stamps)) (now (a .ops)) (now (a .accesses))
+    (now (a .table)) (now (a .ops-back)) (now (a .calls-back))
 
 -- what the types say
 typed-at : (c : tie.After-slice-known) → TypedTrip (trip-at c)
@@ -33,12 +34,13 @@ typed-at c =
     }
 
 -- the answer, by the counts
-decided-at : (c : tie.After-decide) → let t = trip-at (started c) in
-    c .decide .result ≡ decided (recordsOf t) (callsOf t) (length (t .table)) (length (t .opsBack)) (length (t .callsBack))
+decided-at : (c : tie.After-decide) → c .decide .result ≡ decidedOf (trip-at (started c))
 decided-at c =
     let t = trip-at (started c) in
     c .decide .ensures
-    ∙ ap₂ (λ (n m : ℕ). decided n m (length (t .table)) (length (t .opsBack)) (length (t .callsBack))) (c .before .count .ensures .0) (c .before .count .ensures .1 .0)
+    ∙ ap₂ (λ (n m : ℕ). decided n m (length (t .table)) (length (t .opsBack)) (length (t .callsBack)))
+    (c .before .count .ensures .0)
+    (c .before .count .ensures .1 .0)
 
 run-requires : tie.Need-run-requires
 run-requires c κs =
@@ -48,9 +50,11 @@ run-requires c κs =
 
 returns : tie.Need-returns
 returns c =
-    let told = c .before .before .before .before .before .before .before .before .before .before .before .before .before .before .before .before .before .before .before .before .before .before .before in
+    let ran = c .before .before .before .before .before .before .before .before .before .before .before .before .before .before in
+    let told = ran .before .before .before .before .before .before .before .before .before in
     let found = told .before .before in
-    ended-through (trip-at (started found)) (typed-at (started found)) _ (sym (told .answer .given .1) ∙ decided-at found) _ _ _ refl _ _ _ _ (c .before .before .before .before .before .before .before .before .before .before .before .before .before .before .run .ensures)
+    let is = sym (told .answer .given .1) ∙ decided-at found in
+    ended-through (trip-at (started found)) (typed-at (started found)) _ is _ _ _ refl _ _ _ _ (ran .run .ensures)
 
 returns-2 : tie.Need-returns-2
 returns-2 c =

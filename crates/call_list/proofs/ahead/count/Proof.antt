@@ -35,7 +35,8 @@ loop-again c =
     (λ w. rw (lt-ltb 0 _ (w .0 .taken)) (omega arith))
     (λ w. rw (le-ltb 0 _ (w .0 .left)) (omega arith))
     (c .if1 .came) in
-    count-turn (a .gap) (now (a .calls)) (a .cells) (a .stamped) (a .room) (a .space) _ _ _ _ (at .loop .inv) (c .before .before .before .loop-test .taken)
+    count-turn (a .gap) (now (a .calls)) (a .cells) (a .stamped) (a .room) (a .space) _ _ _ _ (at .loop .inv)
+    (c .before .before .before .loop-test .taken)
     (callOf (c .before .before .call-at .result)) (c .before .before .call-at .ensures) _ _ (told .ensures .0) (told .ensures .1) one
 
 returns : tie.Need-returns Inv-loop μ-loop

@@ -19,7 +19,9 @@ returns-2 : tie.Need-returns-2
 unfolding recordsOf
 returns-2 c =
     let a = c .before .before .before .before .args in
-    let found = c .records-in .ensures ∙ ap (λ (x : ExpansionAnswer). expansionNumbers x .answer .value) (c .before .expansion-answer .ensures) in (
+    let found =
+    c .records-in .ensures
+    ∙ ap (λ (x : ExpansionAnswer). expansionNumbers x .answer .value) (c .before .expansion-answer .ensures) in (
       rw (le-ltb 2 _ (c .before .before .if1 .left)) found,
       omega (arith, found, value-room (a .gap) (callOf (a .call)) (a .cells) (a .stamped) (a .room) (a .space)),
     )

@@ -9,7 +9,8 @@ use Rattle.call_list.proofs.turns.expand_all.Statement.{statement}
 use Rattle.call_list.proofs.turns.expand_all.Tie as tie
 
 abbrev Inv-loop : tie.InvT-loop
-Inv-loop gap calls bytes₀ stamps₀ ops₀ accesses₀ n done₀ k₀ bytes stamps ops accesses done k = Going gap n calls bytes₀ stamps₀ ops₀ accesses₀ bytes stamps ops accesses done k
+Inv-loop gap calls bytes₀ stamps₀ ops₀ accesses₀ n done₀ k₀ bytes stamps ops accesses done k =
+    Going gap n calls bytes₀ stamps₀ ops₀ accesses₀ bytes stamps ops accesses done k
 
 abbrev μ-loop : tie.MeasureT-loop
 μ-loop gap calls bytes₀ stamps₀ ops₀ accesses₀ n done₀ k₀ bytes stamps ops accesses done k = n - k
@@ -25,14 +26,16 @@ loop-again c =
     let called = told .before .before .before .before .before in
     let at = called .before .before in
     let a = at .before .before .before .before .before .before .args in
-    going-turn (a .gap) (now (a .calls)) (now (a .bytes)) (now (a .stamps)) (now (a .ops)) (now (a .accesses)) _ _ _ _ _ _ _ (at .loop .inv) (called .before .loop-test .taken)
+    going-turn (a .gap) (now (a .calls)) (now (a .bytes)) (now (a .stamps)) (now (a .ops)) (now (a .accesses)) _ _ _ _ _ _ _ (at .loop .inv)
+    (called .before .loop-test .taken)
     (callOf (called .call-at .result)) (called .call-at .ensures) _ _ _ _ _ (told .expand-next .ensures)
 
 returns : tie.Need-returns Inv-loop μ-loop
 returns c =
     let at = c .before in
     let a = at .before .before .before .before .before .before .args in
-    going-end (a .gap) (now (a .calls)) (now (a .bytes)) (now (a .stamps)) (now (a .ops)) (now (a .accesses)) _ _ _ _ _ _ _ (at .loop .inv) (omega arith)
+    going-end (a .gap) (now (a .calls)) (now (a .bytes)) (now (a .stamps)) (now (a .ops)) (now (a .accesses)) _ _ _ _ _ _ _ (at .loop .inv)
+    (omega arith)
 
 pub expand-all-spec : {M : Type 1} → statement M
 expand-all-spec =

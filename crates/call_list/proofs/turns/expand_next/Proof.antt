@@ -13,7 +13,8 @@ returns : tie.Need-returns
 returns c =
     let start = c .before .before .before .before .before .before in
     let a = start .args in
-    turned-none (a .gap) (callOf (a .call)) (a .done) (now (a .bytes)) (now (a .stamps)) (now (a .ops)) (now (a .accesses)) (start .pre) (c .if1 .taken)
+    turned-none (a .gap) (callOf (a .call)) (a .done) (now (a .bytes)) (now (a .stamps)) (now (a .ops)) (now (a .accesses)) (start .pre)
+    (c .if1 .taken)
 
 returns-2 : tie.Need-returns-2
 returns-2 c =

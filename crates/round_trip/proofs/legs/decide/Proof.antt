@@ -26,24 +26,24 @@ mul-if2 c =
 returns-2 : tie.Need-returns-2
 unfolding decided
 returns-2 c =
-    let unmade : c .before .before .before .args .table-room < COLUMNS * rowCount (c .before .before .before .args .n) =
-    rw (c .before .row-count .ensures) at (c .if2 .taken) in
+    let a = c .before .before .before .args in
+    let unmade : a .table-room < COLUMNS * rowCount (a .n) = rw (c .before .row-count .ensures) at (c .if2 .taken) in
     rw (le-ltb 65536 _ (c .before .before .if1 .left), lt-ltb _ _ unmade)
 
 returns-3 : tie.Need-returns-3
 unfolding decided
 returns-3 c =
-    let made : COLUMNS * rowCount (c .before .before .before .before .args .n) ≤ c .before .before .before .before .args .table-room =
-    rw (c .before .before .row-count .ensures) at (c .before .if2 .left) in
+    let a = c .before .before .before .before .args in
+    let made : COLUMNS * rowCount (a .n) ≤ a .table-room = rw (c .before .before .row-count .ensures) at (c .before .if2 .left) in
     rw (le-ltb 65536 _ (c .before .before .before .if1 .left), le-ltb _ _ made, c .if3 .taken)
 
 returns-4 : tie.Need-returns-4
 unfolding decided
 returns-4 c =
-    let made : COLUMNS * rowCount (c .before .before .before .before .args .n) ≤ c .before .before .before .before .args .table-room =
-    rw (c .before .before .row-count .ensures) at (c .before .if2 .left) in
+    let a = c .before .before .before .before .args in
+    let made : COLUMNS * rowCount (a .n) ≤ a .table-room = rw (c .before .before .row-count .ensures) at (c .before .if2 .left) in
     rw (le-ltb 65536 _ (c .before .before .before .if1 .left), le-ltb _ _ made, c .if3 .left)
-    (ap (λ rows. Passed rows (c .before .before .before .before .args .n) (c .before .before .before .before .args .m)) (c .before .before .row-count .ensures))
+    (ap (λ rows. Passed rows (a .n) (a .m)) (c .before .before .row-count .ensures))
 
 pub decide-spec : {M : Type 1} → statement M
 decide-spec =
