@@ -9,8 +9,8 @@ ghost use Rattle.read_back.specs.ReadBack.{CALL-WIDTH};
 ghost use Rattle.call_list.specs.CallList.{callsIn};
 ghost use Rattle.call_list.specs.Counts.{recordsOf, allRecords, allCalls};
 use crate::Counts;
-use crate::call_at;
-use crate::records_in;
+use crate::call::call_at;
+use crate::call::records_in;
 use expansion::judge::expansion_answer;
 use expansion_rows::CopyCall;
 

@@ -7,8 +7,8 @@ ghost use Rattle.copy_row.specs.Trace.{OP-WIDTH};
 ghost use Rattle.expansion.specs.Expansion.{lent};
 ghost use Rattle.expansion_rows.specs.Rows.{callOf};
 ghost use Rattle.call_list.specs.CallList.{callsIn, allExpanded, Turned};
-use crate::call_at;
-use crate::records_in;
+use crate::call::call_at;
+use crate::call::records_in;
 use expansion::expand::expand;
 use expansion_rows::CopyCall;
 

@@ -1,4 +1,4 @@
--- `call_list::call_at` meets its contract. Assumes nothing.
+-- `call_list::call::call_at` meets its contract. Assumes nothing.
 use mathlib.Core.Path.{_≡_, sym, ap, _∙_}
 use Prim.Native.Nat.{ℕ, _+_, _*_}
 use native.Mathlib.Nat.{add-zero}
@@ -7,8 +7,8 @@ use denote.Ref.{now}
 use lib.ListN.{getD, drop}
 use lib.Seq.{getD-drop}
 use Rattle.read_back.specs.ReadBack.{CALL-WIDTH}
-use Rattle.call_list.proofs.call_at.Statement.{statement}
-use Rattle.call_list.proofs.call_at.Tie as tie
+use Rattle.call_list.proofs.call.call_at.Statement.{statement}
+use Rattle.call_list.proofs.call.call_at.Tie as tie
 
 returns : tie.Need-returns
 returns c =
