@@ -19,7 +19,7 @@ all-bytes : (l : List ℕ) → Bytes l → All (λ (b : ℕ). b < 256) l
 all-bytes [] h = tt
 all-bytes (x ∷ l) h = (h 0, all-bytes l (λ i. h (suc i)))
 
-bytes-take : (n : ℕ) (l : List ℕ) → Bytes l → Bytes (take n l)
+pub bytes-take : (n : ℕ) (l : List ℕ) → Bytes l → Bytes (take n l)
 bytes-take zero l h i = omega arith
 bytes-take (suc n) [] h i = h i
 bytes-take (suc n) (x ∷ l) h zero = h 0

@@ -1,0 +1,5 @@
+pub mod Answers
+pub mod Whole
+pub mod Ends
+pub mod RoundTrip
+pub mod Instances

@@ -1,0 +1,103 @@
+-- What comes back is what went in: by the three ways that a trip can end. Assumes nothing.
+use mathlib.Core.Path.{_≡_, sym, ap, _∙_, subst}
+use mathlib.Core.Bool.{cond}
+use mathlib.Core.Logic.{_⊎_, inl, inr}
+use Prim.Native.Nat.{ℕ, _≤_, _<_}
+use native.Mathlib.Omega.{arith}
+use lib.Dec.{eqb}
+use Rattle.records.specs.RowCount.{rowCount}
+use Rattle.read_back.specs.ReadBack.{opsAfter, callsAfter}
+use Rattle.demand.specs.Demand.{Passes}
+use Rattle.round_trip.specs.Trip.{Trip, written, reader, RoundTripNumbers, tripNumbers, opsBackAfter, callsBackAfter}
+use Rattle.round_trip.specs.RoundTrip.{TypedTrip, numberOf, recordsCount, rowsCount, Short, CameBack, RoundTrip}
+use Rattle.round_trip.proofs.Whole.{recordsOf, records-length, calls-length, ShortOf, Way, over, short, passed, way, trip-over, trip-short, trip-passed, by-demand, read-ops, read-calls}
+
+module _ (t : Trip) where
+  count-is : recordsCount t ≡ recordsOf t
+  count-is = omega (arith, records-length t)
+
+  rows-are : rowCount (recordsOf t) ≡ rowsCount t
+  rows-are = ap rowCount (sym count-is)
+
+  -- a buffer that is short, by the counts and by the lists
+  short-lists : ShortOf t → Short t
+  short-lists (inl h) = inl (omega (arith, rows-are))
+  short-lists (inr (inl h)) = inr (inl (omega (arith, records-length t)))
+  short-lists (inr (inr h)) = inr (inr (omega (arith, calls-length t)))
+
+  short-counts : Short t → ShortOf t
+  short-counts (inl h) = inl (omega (arith, rows-are))
+  short-counts (inr (inl h)) = inr (inl (omega (arith, records-length t)))
+  short-counts (inr (inr h)) = inr (inr (omega (arith, calls-length t)))
+
+  module _ (typed : TypedTrip t) where
+    number : {n : RoundTripNumbers} → tripNumbers t ≡ n → numberOf t ≡ n .answer .number
+    number e = ap (λ (x : RoundTripNumbers). x .answer .number) e
+
+    answers : (numberOf t ≡ 0) ⊎ (numberOf t ≡ 8) ⊎ (numberOf t ≡ 9)
+    answers = go (way t)
+      where
+        go : Way t → (numberOf t ≡ 0) ⊎ (numberOf t ≡ 8) ⊎ (numberOf t ≡ 9)
+        go (over h) = inr (inl (number (trip-over t typed h)))
+        go (short few h) = inr (inr (number (trip-short t typed few h)))
+        go (passed few room a b) = inl (number (trip-passed t typed few room a b))
+
+    eight-over : numberOf t ≡ 8 → 65536 < recordsCount t
+    eight-over e = go (way t)
+      where
+        go : Way t → 65536 < recordsCount t
+        go (over h) = omega (arith, count-is)
+        go (short few h) = absurd (omega (arith, number (trip-short t typed few h)))
+        go (passed few room a b) = absurd (omega (arith, number (trip-passed t typed few room a b)))
+
+    over-eight : 65536 < recordsCount t → numberOf t ≡ 8
+    over-eight h = number (trip-over t typed (omega (arith, count-is)))
+
+    nine-short : numberOf t ≡ 9 → (recordsCount t ≤ 65536) × Short t
+    nine-short e = go (way t)
+      where
+        go : Way t → (recordsCount t ≤ 65536) × Short t
+        go (over h) = absurd (omega (arith, number (trip-over t typed h)))
+        go (short few h) = (omega (arith, count-is), short-lists h)
+        go (passed few room a b) = absurd (omega (arith, number (trip-passed t typed few room a b)))
+
+    short-nine : (recordsCount t ≤ 65536) × Short t → numberOf t ≡ 9
+    short-nine h = number (trip-short t typed (omega (arith, count-is, h .0)) (short-counts (h .1)))
+
+    back : numberOf t ≡ 0 → CameBack t
+    unfolding opsBackAfter callsBackAfter
+    back e = go (way t)
+      where
+        go : Way t → CameBack t
+        go (over h) = absurd (omega (arith, number (trip-over t typed h)))
+        go (short few h) = absurd (omega (arith, number (trip-short t typed few h)))
+        go (passed few room a b) =
+            let told = trip-passed t typed few room a b in
+            let rows : tripNumbers t .rows ≡ rowCount (recordsOf t) = ap (λ (x : RoundTripNumbers). x .rows) told in
+            record {
+              rows = rows ∙ rows-are;
+              records = ap (λ (x : RoundTripNumbers). x .answer .value) told ∙ sym count-is;
+              calls = ap (λ (x : RoundTripNumbers). x .calls) told ∙ omega (arith, calls-length t);
+              passes = subst (λ (n : ℕ). Passes (t .gap) (written t n)) (sym rows) (by-demand t typed few room .0);
+              ops-back =
+                  ap
+                  (λ (x : RoundTripNumbers).
+                  cond (eqb (x .answer .number) 0) (opsAfter (reader t (x .rows)) (written t (x .rows)) (t .opsBack)) (t .opsBack))
+                  told
+                  ∙ read-ops t typed few room a b;
+              calls-back =
+                  ap
+                  (λ (x : RoundTripNumbers).
+                  cond (eqb (x .answer .number) 0) (callsAfter (reader t (x .rows)) (written t (x .rows)) (t .callsBack)) (t .callsBack))
+                  told
+                  ∙ read-calls t typed few room a b;
+            }
+
+pub round-trip : RoundTrip
+round-trip =
+    record {
+      answers = answers;
+      eight = λ t typed. (eight-over t typed, over-eight t typed);
+      nine = λ t typed. (nine-short t typed, short-nine t typed);
+      back = back;
+    }

@@ -1,0 +1,206 @@
+-- The three ways that a trip can end, by its counts: above 65,536 records, a buffer that is short, or through; and what the definitions
+-- come to in each. The records of accepted calls are good, so the maker has nothing else to refuse, and demand 3 says that the rows written
+-- pass and are read back as what went in. Assumes nothing.
+use mathlib.Core.Path.{_≡_, refl, sym, ap, _∙_}
+use mathlib.Core.Bool.{Bool, true, false, cond, or-true}
+use mathlib.Core.Logic.{_⊎_, inl, inr}
+use mathlib.Core.List.{List, map, flatMap}
+use mathlib.Core.Option.{none}
+use Prim.Native.Nat.{ℕ, _*_, _/_, _≤_, _<_}
+use native.Mathlib.Omega.{arith}
+use borrow.Author.Tests.{lt-ltb, le-ltb, le-leb, lt-leb, ltb-true, ltb-false, leb-true, leb-false}
+use lib.Dec.{ltb, leb}
+use lib.ListN.{length}
+use Rattle.answer.specs.Numbers.{accepted, refused}
+use Rattle.records.specs.Lists.{store}
+use Rattle.records.specs.RowCount.{rowCount}
+use Rattle.records.specs.declared.TableAnswer.{TableAnswer}
+use Rattle.records.specs.declared.TableAnswer.the-variants as table
+use Rattle.copy_row.specs.Columns.{COLUMNS}
+use Rattle.copy_row.specs.Calls.{opRecord}
+use Rattle.copy_row.specs.Trace.{OP-WIDTH, copyAnswer}
+use Rattle.copy_meaning.specs.Steps.{All, LiveStep}
+use Rattle.calls.specs.Cuts.{CutCall, opsOf}
+use Rattle.calls.proofs.Chained.{chain}
+use Rattle.read_back.specs.ReadBack.{CALL-WIDTH, opsAfter, callsAfter}
+use Rattle.read_back.specs.declared.ReadBackAnswer.{ReadBackAnswer}
+use Rattle.read_back.specs.declared.ReadBackAnswer.the-variants as read
+use Rattle.demand.specs.Demand as demand
+use Rattle.demand.specs.Demand.{Typed, Passes, ReadsBack}
+use Rattle.demand.proofs.Demand.{demand3}
+use Rattle.demand.proofs.Whole.{steps}
+use Rattle.demand.proofs.RowLists.{flatMap-length}
+use Rattle.demand.proofs.GoodRecords.{records-wide, maker-answer}
+use Rattle.demand.proofs.Accepted.{cutTry, tries-fit, tries-wrote}
+use Rattle.call_list.specs.CallList.{callsIn}
+use Rattle.call_list.proofs.Counted as counted
+use Rattle.call_list.proofs.Typed.{calls-wide, tries-typed}
+use Rattle.round_trip.specs.Trip.{Trip, tries, recordsIn, callsHanded, maker, written, reader, RoundTripNumbers, refusedBy, fromReader, onMaker, tripNumbers, roundTripNumbers}
+use Rattle.round_trip.specs.Legs.{decided}
+use Rattle.round_trip.specs.RoundTrip.{TypedTrip}
+use Rattle.round_trip.specs.declared.RoundTripAnswer.{RoundTripAnswer}
+use Rattle.round_trip.specs.declared.RoundTripAnswer.the-variants.{TooManyRecords, BufferShort}
+
+-- how many records and calls go in
+abbrev pub recordsOf : Trip → ℕ
+recordsOf t = counted.recordsIn (t .gap) (callsIn (t .calls)) (t .slices)
+
+abbrev pub callsOf : Trip → ℕ
+callsOf t = counted.callsAccepted (t .gap) (callsIn (t .calls)) (t .slices)
+
+pub records-length : (t : Trip) → length (recordsIn t) ≡ OP-WIDTH * recordsOf t
+records-length t = counted.records-counted (t .gap) (callsIn (t .calls)) (t .slices)
+
+pub calls-length : (t : Trip) → length (callsHanded t) ≡ CALL-WIDTH * callsOf t
+calls-length t = counted.calls-counted (t .gap) (callsIn (t .calls)) (t .slices)
+
+-- what is answered where nothing is refused
+abbrev pub through : Trip → RoundTripNumbers
+through t = record { answer = accepted (recordsOf t); rows = rowCount (recordsOf t); calls = callsOf t }
+
+-- a buffer is short
+abbrev pub ShortOf : Trip → Type 0
+ShortOf t =
+    (length (t .table) < COLUMNS * rowCount (recordsOf t))
+    ⊎ (length (t .opsBack) < OP-WIDTH * recordsOf t)
+    ⊎ (length (t .callsBack) < CALL-WIDTH * callsOf t)
+
+-- the answer by counts
+abbrev pub decidedOf : Trip → RoundTripAnswer
+decidedOf t = decided (recordsOf t) (callsOf t) (length (t .table)) (length (t .opsBack)) (length (t .callsBack))
+
+-- the three ways
+pub data Way (t : Trip) : Type 0 where
+  over : 65536 < recordsOf t → Way t
+  short : recordsOf t ≤ 65536 → ShortOf t → Way t
+  passed : recordsOf t ≤ 65536 → COLUMNS * rowCount (recordsOf t) ≤ length (t .table) → OP-WIDTH * recordsOf t ≤ length (t .opsBack)
+      → CALL-WIDTH * callsOf t ≤ length (t .callsBack) → Way t
+
+pub way : (t : Trip) → Way t
+way t = go _ _ _ _ refl refl refl refl
+  where
+    go : (x y z w : Bool) → ltb 65536 (recordsOf t) ≡ x → leb (COLUMNS * rowCount (recordsOf t)) (length (t .table)) ≡ y
+        → leb (OP-WIDTH * recordsOf t) (length (t .opsBack)) ≡ z → leb (CALL-WIDTH * callsOf t) (length (t .callsBack)) ≡ w → Way t
+    go true y z w p q r s = over (ltb-true _ _ p)
+    go false false z w p q r s = short (ltb-false _ _ p) (inl (leb-false _ _ q))
+    go false true false w p q r s = short (ltb-false _ _ p) (inr (inl (leb-false _ _ r)))
+    go false true true false p q r s = short (ltb-false _ _ p) (inr (inr (leb-false _ _ s)))
+    go false true true true p q r s = passed (ltb-false _ _ p) (leb-true _ _ q) (leb-true _ _ r) (leb-true _ _ s)
+
+-- What the definitions come to
+
+module _ (t : Trip) (typed : TypedTrip t) where
+  pub all-typed : All Typed (tries t)
+  unfolding callsIn
+  all-typed = tries-typed (t .gap) (callsIn (t .calls)) (t .slices) (calls-wide _ (t .calls) (typed .calls)) (typed .bytes)
+
+  abbrev ks : List CutCall
+  ks = map cutTry (demand.accepted (t .gap) (tries t))
+
+  live : All (LiveStep (t .gap)) (opsOf ks)
+  live = steps (t .gap) none (opsOf ks) (chain (t .gap) ks (tries-fit (t .gap) (tries t) all-typed))
+
+  wrote : recordsIn t ≡ flatMap opRecord (opsOf ks)
+  wrote = tries-wrote (t .gap) (tries t) all-typed
+
+  ops-count : length (opsOf ks) ≡ recordsOf t
+  ops-count =
+      omega (arith, flatMap-length OP-WIDTH opRecord (opsOf ks) (records-wide (t .gap) (opsOf ks) live), ap length wrote, records-length t)
+
+  abbrev makerFor : ℕ → TableAnswer
+  makerFor n =
+      cond (ltb 65536 n) table.TooManyRecords
+      (cond (leb (COLUMNS * rowCount n) (length (t .table))) (table.Made (rowCount n)) table.BufferShort)
+
+  maker-is : maker t ≡ makerFor (recordsOf t)
+  maker-is =
+      ap (λ r. copyAnswer 65536 r (length (t .table))) wrote
+      ∙ maker-answer (t .gap) 65536 (length (t .table)) (opsOf ks) live
+      ∙ ap makerFor ops-count
+
+  pub trip-over : 65536 < recordsOf t → tripNumbers t ≡ refusedBy (refused 8 0)
+  unfolding tripNumbers
+  trip-over h =
+      let made : maker t ≡ table.TooManyRecords = maker-is ∙ rw (lt-ltb _ _ h) in
+      ap (λ (a : TableAnswer). onMaker a (λ rows. fromReader rows (reader t rows))) made
+
+  module _ (few : recordsOf t ≤ 65536) where
+    trip-unmade : length (t .table) < COLUMNS * rowCount (recordsOf t) → tripNumbers t ≡ refusedBy (refused 9 0)
+    unfolding tripNumbers
+    trip-unmade h =
+        let made : maker t ≡ table.BufferShort = maker-is ∙ rw (le-ltb _ _ few, lt-leb _ _ h) in
+        ap (λ (a : TableAnswer). onMaker a (λ rows. fromReader rows (reader t rows))) made
+
+    module _ (room : COLUMNS * rowCount (recordsOf t) ≤ length (t .table)) where
+      abbrev rows : ℕ
+      rows = rowCount (recordsOf t)
+
+      pub made : maker t ≡ table.Made rows
+      made = maker-is ∙ rw (le-ltb _ _ few, le-leb _ _ room)
+
+      -- demand 3
+      pub by-demand : Passes (t .gap) (written t rows)
+          × ((ops calls : List ℕ) → ReadsBack (t .gap) (written t rows) (recordsIn t) (callsHanded t) ops calls)
+      by-demand = demand3 .made (t .gap) (typed .gap) (tries t) all-typed (t .table) rows made
+
+      on-reader : (a : ReadBackAnswer) → reader t rows ≡ a → tripNumbers t ≡ fromReader rows a
+      unfolding tripNumbers
+      on-reader a e = ap (λ (x : TableAnswer). onMaker x (λ n. fromReader n (reader t n))) made ∙ ap (fromReader rows) e
+
+      pub trip-unread : (length (t .opsBack) < OP-WIDTH * recordsOf t) ⊎ (length (t .callsBack) < CALL-WIDTH * callsOf t)
+          → tripNumbers t ≡ refusedBy (refused 9 0)
+      trip-unread h = on-reader read.BufferShort (by-demand .1 (t .opsBack) (t .callsBack) .short (go h))
+        where
+          go : (length (t .opsBack) < OP-WIDTH * recordsOf t) ⊎ (length (t .callsBack) < CALL-WIDTH * callsOf t)
+              → (length (t .opsBack) < length (recordsIn t)) ⊎ (length (t .callsBack) < length (callsHanded t))
+          go (inl h) = inl (omega (arith, records-length t))
+          go (inr h) = inr (omega (arith, calls-length t))
+
+      module _ (a : OP-WIDTH * recordsOf t ≤ length (t .opsBack)) (b : CALL-WIDTH * callsOf t ≤ length (t .callsBack)) where
+        back : (reader t rows ≡ read.Read (length (recordsIn t) / OP-WIDTH) (length (callsHanded t) / CALL-WIDTH))
+            × (opsAfter (reader t rows) (written t rows) (t .opsBack) ≡ store (t .opsBack) 0 (recordsIn t))
+            × (callsAfter (reader t rows) (written t rows) (t .callsBack) ≡ store (t .callsBack) 0 (callsHanded t))
+        back =
+            by-demand .1 (t .opsBack) (t .callsBack) .reads (omega (arith, records-length t)) (omega (arith, calls-length t))
+
+        pub trip-passed : tripNumbers t ≡ through t
+        trip-passed =
+            let n : length (recordsIn t) / OP-WIDTH ≡ recordsOf t = omega (arith, records-length t) in
+            let m : length (callsHanded t) / CALL-WIDTH ≡ callsOf t = omega (arith, calls-length t) in
+            on-reader (read.Read (recordsOf t) (callsOf t)) (back .0 ∙ rw (n, m))
+
+        pub read-ops : opsAfter (reader t rows) (written t rows) (t .opsBack) ≡ store (t .opsBack) 0 (recordsIn t)
+        read-ops = back .1
+
+        pub read-calls : callsAfter (reader t rows) (written t rows) (t .callsBack) ≡ store (t .callsBack) 0 (callsHanded t)
+        read-calls = back .2
+
+  pub trip-short : recordsOf t ≤ 65536 → ShortOf t → tripNumbers t ≡ refusedBy (refused 9 0)
+  trip-short few (inl h) = trip-unmade few h
+  trip-short few (inr h) = go (leb (COLUMNS * rowCount (recordsOf t)) (length (t .table))) refl
+    where
+      go : (x : Bool) → leb (COLUMNS * rowCount (recordsOf t)) (length (t .table)) ≡ x → tripNumbers t ≡ refusedBy (refused 9 0)
+      go true e = trip-unread few (leb-true _ _ e) h
+      go false e = trip-unmade few (leb-false _ _ e)
+
+  -- the answer by counts is the answer
+  abbrev unmade : Bool
+  unmade = ltb (length (t .table)) (COLUMNS * rowCount (recordsOf t))
+
+  pub decided-is : roundTripNumbers (decidedOf t) ≡ tripNumbers t
+  unfolding decided
+  decided-is = go (way t)
+    where
+      either : (b : Bool) → roundTripNumbers (cond b BufferShort BufferShort) ≡ refusedBy (refused 9 0)
+      either true = refl
+      either false = refl
+
+      go : Way t → roundTripNumbers (decidedOf t) ≡ tripNumbers t
+      go (over h) = rw (lt-ltb _ _ h) (sym (trip-over h))
+      go (short few (inl h)) = rw (le-ltb _ _ few, lt-ltb _ _ h) (sym (trip-short few (inl h)))
+      go (short few (inr (inl h))) =
+          rw (le-ltb _ _ few, lt-ltb (length (t .opsBack)) (OP-WIDTH * recordsOf t) h) (either unmade ∙ sym (trip-short few (inr (inl h))))
+      go (short few (inr (inr h))) =
+          rw (le-ltb _ _ few, lt-ltb (length (t .callsBack)) (CALL-WIDTH * callsOf t) h, or-true)
+          (either unmade ∙ sym (trip-short few (inr (inr h))))
+      go (passed few room a b) = rw (le-ltb _ _ few, le-ltb _ _ room, le-ltb _ _ a, le-ltb _ _ b) (sym (trip-passed few room a b))

@@ -1,0 +1,4 @@
+pub mod Trip
+pub mod Legs
+pub mod RoundTrip
+pub mod Instances

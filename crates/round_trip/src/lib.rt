@@ -1,0 +1,89 @@
+// The whole way, open to callers: calls in, table, check, and back. Document 01: "The accepted calls' operation records, joined in the
+// list's order, go to the copy table's maker. Where it refuses nothing, the rows written pass under that gap." Assumes nothing.
+pub mod legs;
+
+ghost use mathlib.Core.Path.{_≡_};
+ghost use mathlib.Core.Bool.{true};
+ghost use Rattle.expansion.specs.Expansion.{lent};
+ghost use Rattle.round_trip.specs.Trip.{tripOf, tripNumbers, roundTripNumbers, slicesAfter, tableAfter, opsBackAfter, callsBackAfter};
+ghost use Rattle.round_trip.specs.RoundTrip.{RoundTrip};
+ghost use Rattle.round_trip.specs.Instances.{Instances};
+use call_list::ahead::count;
+
+pub enum RoundTripAnswer {
+    // nothing is refused: how many rows the table has, and how many operation records and calls came back
+    Passed {
+        rows: usize,
+        ops: usize,
+        calls: usize,
+    },
+    // 8: above 65,536 operation records
+    TooManyRecords,
+    // 9: the table, or one of read-back's buffers, is shorter than the result
+    BufferShort,
+}
+
+// Expands the calls (five numbers each: kind, stamp, src, dst, count; what is left over is not read) one by one over the window, passing
+// over those that are refused; makes the table of their records; checks the rows written, and only these; and reads them back. The answer
+// is known from counts, before anything is written: a refusal writes nothing, the window included. A gap of 32 bits is never refused (7).
+pub fn round_trip(
+    gap: u32,
+    calls: &[u64],
+    bytes: &mut [u8],
+    stamps: &mut [u64],
+    ops: &mut [u64],
+    accesses: &mut [u64],
+    table: &mut [u64],
+    ops_back: &mut [u64],
+    calls_back: &mut [u64],
+) -> RoundTripAnswer
+    ensures answer { λ r. ⌜ roundTripNumbers r ≡ tripNumbers (tripOf gap (now (calls .entry)) (now (bytes .entry)) (now (stamps .entry)) (now (ops .entry)) (now (accesses .entry)) (now (table .entry)) (now («ops_back» .entry)) (now («calls_back» .entry))) ⌝ }
+    ensures slices { λ _. ⌜ lent (now (bytes .exit)) (now (stamps .exit)) (now (ops .exit)) (now (accesses .exit)) ≡ slicesAfter (tripOf gap (now (calls .entry)) (now (bytes .entry)) (now (stamps .entry)) (now (ops .entry)) (now (accesses .entry)) (now (table .entry)) (now («ops_back» .entry)) (now («calls_back» .entry))) ⌝ }
+    ensures table { λ _. ⌜ now (table .exit) ≡ tableAfter (tripOf gap (now (calls .entry)) (now (bytes .entry)) (now (stamps .entry)) (now (ops .entry)) (now (accesses .entry)) (now (table .entry)) (now («ops_back» .entry)) (now («calls_back» .entry))) ⌝ }
+    ensures ops_back { λ _. ⌜ now («ops_back» .exit) ≡ opsBackAfter (tripOf gap (now (calls .entry)) (now (bytes .entry)) (now (stamps .entry)) (now (ops .entry)) (now (accesses .entry)) (now (table .entry)) (now («ops_back» .entry)) (now («calls_back» .entry))) ⌝ }
+    ensures calls_back { λ _. ⌜ now («calls_back» .exit) ≡ callsBackAfter (tripOf gap (now (calls .entry)) (now (bytes .entry)) (now (stamps .entry)) (now (ops .entry)) (now (accesses .entry)) (now (table .entry)) (now («ops_back» .entry)) (now («calls_back» .entry))) ⌝ }
+{
+    let wide = gap as u64;
+    let found = count(
+        wide,
+        calls,
+        bytes.len(),
+        stamps.len(),
+        ops.len(),
+        accesses.len(),
+    );
+    let answer = legs::decide(
+        found.ops,
+        found.calls,
+        table.len(),
+        ops_back.len(),
+        calls_back.len(),
+    );
+    if let RoundTripAnswer::Passed {
+        rows,
+        ops: n,
+        calls: _,
+    } = answer {
+        legs::run(
+            wide,
+            n,
+            rows,
+            calls,
+            bytes,
+            stamps,
+            ops,
+            accesses,
+            table,
+            ops_back,
+            calls_back,
+        );
+    }
+    answer
+}
+
+// That what comes back is what went in is its contract, with instances of what it speaks of.
+pub fn round_trip_holds() -> bool
+    ensures { λ r. ⌜ (r ≡ true) × RoundTrip × Instances ⌝ }
+{
+    true
+}
