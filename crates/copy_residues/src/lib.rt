@@ -3,7 +3,6 @@
 pub mod carries;
 mod cells;
 mod equations;
-pub mod faults;
 pub mod parts;
 pub mod range;
 pub mod residues;

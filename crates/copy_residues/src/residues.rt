@@ -1,15 +1,12 @@
 // Internal to the workspace, not open to callers: the 40 residues of a copy row by their numbers. Assumes nothing.
 use crate::equations;
 use crate::parts::Parts;
-use crate::parts::parts_of;
 use copy_row::cols;
 use field::element;
 ghost use mathlib.Core.Path.{_≡_};
 ghost use Prim.Native.Nat.{_<_};
-ghost use Rattle.field.specs.Field.{p};
 ghost use Rattle.copy_residues.specs.Cells.{Elements, PartsOf};
 ghost use Rattle.copy_residues.specs.Residues.{residue, RESIDUES};
-ghost use Rattle.copy_residues.specs.RowCheck.{firstResidue};
 
 pub const NUM_RESIDUES: u64 = 40;
 
@@ -58,20 +55,4 @@ pub fn residue_with(row: &[u64], parts: Parts, i: u64) -> u64
         38 => equations::no_wrap(row, parts.borrow, cols::DST_0, parts.dst_high),
         _ => equations::gap_no_wrap(parts.gap, row),
     }
-}
-
-// The lowest residue that is not 0, or 40: 16.
-pub fn first_residue(gap: u64, row: &[u64]) -> u64
-    requires { ⌜ Elements (now row) × (gap < p) ⌝ }
-    ensures { λ r. ⌜ r ≡ firstResidue gap (now (row .entry)) ⌝ }
-{
-    let parts = parts_of(gap, row);
-    let mut i = 0;
-    while i < NUM_RESIDUES {
-        if residue_with(row, parts, i) != 0 {
-            return i;
-        }
-        i += 1;
-    }
-    i
 }
