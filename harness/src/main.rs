@@ -6,6 +6,7 @@ mod examples;
 mod exported;
 mod functions;
 mod generate;
+mod inputs;
 mod oracle;
 mod protocol;
 mod replay;

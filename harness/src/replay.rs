@@ -1,10 +1,11 @@
 //! The recorded questions and answers of the replay programs, which ask the exported
-//! functions inside the repository's own tests. A question is a line: the function's
-//! number within the program, then its parameters, a slice as its length and its
-//! numbers. The answer is number, place, value, then each lent slice afterwards as its
-//! length and its numbers, one number to a line.
+//! functions, and the one behind `callcheck`, inside the repository's own tests. A
+//! question is a line: the function's number within the program, then its parameters, a
+//! slice as its length and its numbers. The answer is number, place, value, then each
+//! lent slice afterwards as its length and its numbers, one number to a line.
 
 use crate::generate::Generator;
+use crate::inputs;
 use crate::oracle::PRIME;
 use crate::protocol::{Argument, Question, Reply};
 use std::collections::BTreeMap;
@@ -15,6 +16,8 @@ use std::path::Path;
 /// A program's crate, and the functions that it asks, by number.
 struct Program {
     name: &'static str,
+    /// How many numbers its buffer holds.
+    numbers: usize,
     parts: &'static [Part],
 }
 
@@ -39,6 +42,7 @@ const fn part(name: &'static str, [answered, refused]: [usize; 2], longest: usiz
 const PROGRAMS: &[Program] = &[
     Program {
         name: "replay_field",
+        numbers: 8_192,
         parts: &[
             part("field_add", [150, 30], 2),
             part("field_sub", [150, 30], 2),
@@ -47,6 +51,7 @@ const PROGRAMS: &[Program] = &[
     },
     Program {
         name: "replay_copy",
+        numbers: 8_192,
         parts: &[
             part("generate_copy_trace", [1, 1], 420),
             part("copy_residue", [1, 1], 50),
@@ -55,6 +60,7 @@ const PROGRAMS: &[Program] = &[
     },
     Program {
         name: "replay_access",
+        numbers: 8_192,
         parts: &[
             part("generate_memw_trace", [1, 1], 235),
             part("generate_memw_aligned_trace", [1, 1], 180),
@@ -70,20 +76,26 @@ const PROGRAMS: &[Program] = &[
     },
     Program {
         name: "replay_expansion",
+        numbers: 8_192,
         parts: &[part("collect_copy_ops", [2, 1], 300)],
     },
     Program {
         name: "replay_chain",
+        numbers: 8_192,
         parts: &[
             part("chain_check", [2, 1], 130),
             part("read_back", [2, 1], 220),
         ],
     },
+    Program {
+        name: "replay_callcheck",
+        numbers: 16_384,
+        parts: &[part("callcheck", [3, 2], 200)],
+    },
 ];
 
-/// A program reads fewer bytes than this, and no more numbers than that.
+/// A program reads fewer bytes than this.
 const BYTES: usize = 65_536;
-const NUMBERS: usize = 8_192;
 
 /// Questions that are looked at for each function.
 const DRAWS: usize = 20_000;
@@ -129,15 +141,15 @@ impl Program {
     fn script(&self, source: &str, seed: u64) -> Result<Script, String> {
         let mut script = Script::default();
         for (number, part) in self.parts.iter().enumerate() {
-            if !source.contains(&format!("exports::{}(", part.name)) {
+            if !source.contains(&part.call()) {
                 println!("{}: does not ask {}", self.name, part.name);
                 continue;
             }
-            for (question, reply) in part.questions(seed) {
+            for (question, reply) in part.questions(seed)? {
                 script.add(number, &question, &reply);
             }
         }
-        if script.questions.len() >= BYTES || script.numbers > NUMBERS {
+        if script.questions.len() >= BYTES || script.numbers > self.numbers {
             return Err(format!("too long: {}", script.summary()));
         }
         Ok(script)
@@ -164,9 +176,17 @@ impl Script {
 }
 
 impl Part {
+    /// How a program's source calls it.
+    fn call(&self) -> String {
+        match self.name {
+            "callcheck" => "call_lines::answer(".into(),
+            name => format!("exports::{name}("),
+        }
+    }
+
     /// The questions that are always asked, then so many of each class.
-    fn questions(&self, seed: u64) -> Vec<(Question, Reply)> {
-        let fixed = fixed(self.name).into_iter();
+    fn questions(&self, seed: u64) -> Result<Vec<(Question, Reply)>, String> {
+        let fixed = fixed(self.name)?.into_iter();
         let mut kept: Vec<_> = fixed
             .map(|question| (question.clone(), question.reply()))
             .collect();
@@ -174,8 +194,9 @@ impl Part {
         let mut generator = Generator::new(self.name, seed).expect("a kind");
         for _ in 0..DRAWS {
             let (question, reply) = generator.asked();
-            let seen = classes.entry(class(&question, &reply)).or_default();
-            let most = match reply.answer.number {
+            let class = class(&question, &reply);
+            let seen = classes.entry(class).or_default();
+            let most = match class[0] {
                 0 => self.answered,
                 _ => self.refused,
             };
@@ -184,7 +205,7 @@ impl Part {
                 kept.push((question, reply));
             }
         }
-        kept
+        Ok(kept)
     }
 }
 
@@ -193,6 +214,7 @@ impl Part {
 fn class(question: &Question, reply: &Reply) -> [u64; 2] {
     let answer = reply.answer;
     match (question.name(), answer.number) {
+        ("callcheck", _) => return output_class(&reply.lent[0]),
         (_, 0) => {}
         ("chain_check", 16) => return [16, answer.value],
         ("read_back", 16) => return [16, 0],
@@ -212,6 +234,19 @@ fn class(question: &Question, reply: &Reply) -> [u64; 2] {
     [0, chosen]
 }
 
+/// The last line of `callcheck`'s output: a refusal's number and its line, as far as it
+/// tells lines apart, or 0 and the rows of the table that passed.
+fn output_class(output: &[u64]) -> [u64; 2] {
+    let text: String = output.iter().map(|&byte| char::from(byte as u8)).collect();
+    let fields: Vec<&str> = text.lines().last().unwrap_or("").split('\t').collect();
+    let number = |field: &str| field.parse().expect("a number");
+    match fields[..] {
+        ["refused", refusal, line] => [number(refusal), number(line).min(4)],
+        ["passed", rows] => [0, number(rows)],
+        _ => panic!("no output of callcheck: {text}"),
+    }
+}
+
 fn number(argument: &Argument) -> Option<u64> {
     match argument {
         Argument::Number(number) => Some(*number),
@@ -227,8 +262,23 @@ fn first_length(question: &Question) -> u64 {
     }
 }
 
+/// The questions that are always asked, for the functions that have some.
+fn fixed(name: &str) -> Result<Vec<Question>, String> {
+    if name.starts_with("field_") {
+        return Ok(edges(name));
+    }
+    let question = |input: Vec<u8>| {
+        let bytes: Vec<u64> = input.into_iter().map(u64::from).collect();
+        Question::new(name, vec![bytes.into()])
+    };
+    match name {
+        "callcheck" => Ok(inputs::recorded()?.into_iter().map(question).collect()),
+        _ => Ok(Vec::new()),
+    }
+}
+
 /// Field operations on all pairs of numbers at the edges of 2^32, p and 2^64.
-fn fixed(name: &str) -> Vec<Question> {
+fn edges(name: &str) -> Vec<Question> {
     const TWO_32: u64 = 1 << 32;
     const EDGES: [u64; 11] = [
         0,
@@ -243,9 +293,6 @@ fn fixed(name: &str) -> Vec<Question> {
         PRIME + 1,
         u64::MAX,
     ];
-    if !name.starts_with("field_") {
-        return Vec::new();
-    }
     let pairs = EDGES.iter().flat_map(|&a| EDGES.map(|b| [a, b]));
     let question = |pair: [u64; 2]| Question::new(name, pair.map(Argument::Number).into());
     pairs.map(question).collect()

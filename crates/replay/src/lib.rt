@@ -97,6 +97,21 @@ pub fn load(list: &[u64], buffer: &mut [u64]) -> usize
     i
 }
 
+// Copies a list of bytes to the start of a buffer, as far as it has room; answers how many there are.
+pub fn load_bytes(list: &[u64], buffer: &mut [u8]) -> usize
+    ensures { λ r. ⌜ Counts r (now (buffer .exit)) ⌝ }
+{
+    let mut i = 0;
+    while i < list.len() {
+        if buffer.len() <= i {
+            return i;
+        }
+        buffer[i] = (list[i] % 256) as u8;
+        i += 1;
+    }
+    i
+}
+
 // Prints a number and a line end.
 pub fn print(n: u64) {
     io::print_decimal(1, n);
@@ -121,6 +136,20 @@ pub fn print_all(numbers: &[u64]) {
     let mut i = 0;
     while i < numbers.len() {
         print(numbers[i]);
+        i += 1;
+    }
+}
+
+fn wide(byte: u8) -> u64 {
+    byte as u64
+}
+
+// Prints a list of bytes as `print_list` does one of numbers.
+pub fn print_bytes(bytes: &[u8]) {
+    print(bytes.len() as u64);
+    let mut i = 0;
+    while i < bytes.len() {
+        print(wide(bytes[i]));
         i += 1;
     }
 }

@@ -3,38 +3,9 @@
 // oracle's answers.
 ghost use lib.ListN.{length};
 ghost use Prim.Native.Nat.{_≤_, _<_};
-ghost use Rattle.io.specs.Counts.{Counts};
-
-// Copies a list of bytes to the start of a buffer, as far as it has room; answers how many there are.
-fn load_bytes(list: &[u64], buffer: &mut [u8]) -> usize
-    ensures { λ r. ⌜ Counts r (now (buffer .exit)) ⌝ }
-{
-    let mut i = 0;
-    while i < list.len() {
-        if buffer.len() <= i {
-            return i;
-        }
-        buffer[i] = (list[i] % 256) as u8;
-        i += 1;
-    }
-    i
-}
-
-fn wide(byte: u8) -> u64 {
-    byte as u64
-}
 
 fn print_counts(counts: &[u64; 2]) {
     replay::print_list(counts);
-}
-
-fn print_bytes(bytes: &[u8]) {
-    replay::print(bytes.len() as u64);
-    let mut i = 0;
-    while i < bytes.len() {
-        replay::print(wide(bytes[i]));
-        i += 1;
-    }
 }
 
 fn expand(
@@ -64,7 +35,7 @@ fn expand(
         &mut counts,
     );
     replay::print_answer(answer);
-    print_bytes(bytes);
+    replay::print_bytes(bytes);
     replay::print_list(stamps);
     replay::print_list(ops);
     replay::print_list(accesses);
@@ -81,7 +52,7 @@ fn expand_with(
     counts: &[u64],
 ) {
     let mut first = [0u8; 512];
-    let n = load_bytes(bytes, &mut first);
+    let n = replay::load_bytes(bytes, &mut first);
     let mut second = [0u64; 512];
     let m = replay::load(stamps, &mut second);
     let mut third = [0u64; 512];

@@ -1,12 +1,12 @@
--- `replay_expansion::load_bytes` meets its contract: no more bytes are stored than the buffer has room for. Assumes nothing.
+-- `replay::load_bytes` meets its contract: no more bytes are stored than the buffer has room for. Assumes nothing.
 use mathlib.Core.Path.{_≡_}
 use Prim.Native.Nat.{_≤_, _-_}
 use native.Mathlib.Omega.{arith}
 use lib.ListN.{length, length-set}
 use Rattle.replay.proofs.Counted.{counts}
 use borrow.Author.Needs.{needs}
-use Rattle.replay_expansion.proofs.load_bytes.Statement.{statement}
-use Rattle.replay_expansion.proofs.load_bytes.Tie as tie
+use Rattle.replay.proofs.load_bytes.Statement.{statement}
+use Rattle.replay.proofs.load_bytes.Tie as tie
 
 abbrev Inv-loop : tie.InvT-loop
 Inv-loop list buffer₀ i₀ buffer i = (i ≤ length list) × (length buffer ≡ length buffer₀) × (i ≤ length buffer)

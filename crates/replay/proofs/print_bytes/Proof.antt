@@ -1,9 +1,9 @@
--- `replay_expansion::print_bytes` is safe and ends. Assumes nothing.
+-- `replay::print_bytes` is safe and ends. Assumes nothing.
 use Prim.Native.Nat.{_≤_, _-_}
 use lib.ListN.{length}
 use borrow.Author.Needs.{needs}
-use Rattle.replay_expansion.proofs.print_bytes.Statement.{statement}
-use Rattle.replay_expansion.proofs.print_bytes.Tie as tie
+use Rattle.replay.proofs.print_bytes.Statement.{statement}
+use Rattle.replay.proofs.print_bytes.Tie as tie
 
 abbrev Inv-loop : tie.InvT-loop
 Inv-loop bytes i₀ i = i ≤ length bytes

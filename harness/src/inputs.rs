@@ -1,0 +1,67 @@
+//! Inputs of the program `callcheck` that are always recorded: the examples, and the
+//! longest whose last bytes decide.
+
+use crate::oracle;
+use std::collections::BTreeSet;
+use std::fs::{self, DirEntry};
+use std::path::Path;
+
+/// The files `examples/callcheck/NAME.in` in the order of their names, then `longest`.
+/// An error if a `NAME.out` is not the oracle's output.
+pub fn recorded() -> Result<Vec<Vec<u8>>, String> {
+    let mut inputs = examples().map_err(|why| format!("examples/callcheck: {why}"))?;
+    inputs.extend(longest().map(String::into_bytes));
+    Ok(inputs)
+}
+
+fn examples() -> Result<Vec<Vec<u8>>, String> {
+    let folder = Path::new(env!("CARGO_MANIFEST_DIR")).join("../examples/callcheck");
+    let files: Result<Vec<_>, _> = fs::read_dir(&folder).map_err(text)?.collect();
+    let files = files.map_err(text)?;
+    let stem = |file: &DirEntry| {
+        let name = file.file_name().into_string().ok()?;
+        let stem = name.strip_suffix(".in").or(name.strip_suffix(".out"));
+        stem.map(str::to_string)
+    };
+    let names: BTreeSet<String> = files.iter().filter_map(stem).collect();
+    names.iter().map(|name| example(&folder, name)).collect()
+}
+
+/// An input, once its `NAME.out` is found to be the oracle's output.
+fn example(folder: &Path, name: &str) -> Result<Vec<u8>, String> {
+    let read = |ending: &str| {
+        let file = format!("{name}.{ending}");
+        fs::read(folder.join(&file)).map_err(|why| format!("{file}: {why}"))
+    };
+    let input = read("in")?;
+    let expected = oracle::callcheck(&input);
+    if read("out")? != expected {
+        let expected = String::from_utf8_lossy(&expected);
+        return Err(format!(
+            "{name}.out is not the oracle's output, which is:\n{expected}"
+        ));
+    }
+    Ok(input)
+}
+
+/// Lines as long as they can be: 32 calls, all accepted, in 2,905 bytes; the same with a
+/// call too many, refused with 9, whose newline is byte 2,995; with a digit there, so
+/// that 10 refuses the line.
+fn longest() -> [String; 3] {
+    let gap = format!("gap\t{:020}\n", u32::MAX);
+    let call = format!(
+        "write\t{}\t{}\t{:020}\t{:020}",
+        u64::MAX - 1,
+        u64::MAX,
+        u32::MAX,
+        0
+    );
+    let accepted = gap + &format!("{call}\n").repeat(32);
+    let too_many = format!("{accepted}{call}\nx\n");
+    let too_long = format!("{accepted}{call}0\n");
+    [accepted, too_many, too_long]
+}
+
+fn text(error: std::io::Error) -> String {
+    error.to_string()
+}
