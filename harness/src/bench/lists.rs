@@ -2,12 +2,17 @@
 
 use super::{Report, SIZES, Times, one_pass, race_two};
 use crate::exported;
-use crate::oracle::COPY_COLUMNS;
+use crate::generate::Generator;
+use crate::oracle::{self, COPY_COLUMNS};
+use crate::protocol::{Argument, Question};
 use crate::rng::Rng;
 use crate::sound::{self, Call, CutCall, Piece};
 use std::hint::black_box;
 
 const GAP: u64 = 8;
+
+/// Rows on which all residues are walked.
+const WALKED: usize = 256;
 
 pub fn run(report: &mut Report) {
     let lists = SIZES.map(sound_list);
@@ -17,6 +22,8 @@ pub fn run(report: &mut Report) {
             "one-pass Rust",
             lists.each_ref().map(|list| check(list)),
         );
+        let what = "chain_check, a row of which only residue 39 is not 0";
+        report.call(what, "one-pass Rust", walk(&walked_rows()));
     }
     if report.wants("read_back") {
         let times = lists.each_ref().map(|list| read_back(list));
@@ -39,6 +46,58 @@ fn check(list: &[u64]) -> Times {
         &mut || _ = black_box(exported::chain_check(GAP, list)),
         &mut || _ = black_box(one_pass::chain_check(GAP, list)),
     )
+}
+
+/// Lists of one row each, on which nothing but the last residue is amiss: here the proved
+/// code walks all residues by number after its quick test.
+fn walk(rows: &[(u64, Vec<u64>)]) -> Times {
+    let rows = black_box(rows);
+    for (gap, row) in rows {
+        let answers = [
+            exported::chain_check(*gap, row),
+            one_pass::chain_check(*gap, row),
+        ];
+        assert!(
+            answers[0] == answers[1] && (answers[0].number, answers[0].value) == (16, 39),
+            "chain check: {answers:?}"
+        );
+    }
+    race_two(
+        rows.len(),
+        &mut || {
+            for (gap, row) in rows {
+                black_box(exported::chain_check(*gap, row));
+            }
+        },
+        &mut || {
+            for (gap, row) in rows {
+                black_box(one_pass::chain_check(*gap, row));
+            }
+        },
+    )
+}
+
+/// Rows that the chain check's questions have and that fail by residue 39 first.
+fn walked_rows() -> Vec<(u64, Vec<u64>)> {
+    let mut generator = Generator::new("chain_check", 1).expect("a kind");
+    let mut found = Vec::new();
+    while found.len() < WALKED {
+        let question = generator.question();
+        found.extend(row_of(&question));
+    }
+    found
+}
+
+fn row_of(question: &Question) -> Option<(u64, Vec<u64>)> {
+    let [Argument::Number(gap), Argument::List(list)] = &question.arguments[..] else {
+        return None;
+    };
+    let answer = oracle::chain_check(*gap, list);
+    if (answer.number, answer.value) != (16, 39) {
+        return None;
+    }
+    let start = answer.place as usize * COPY_COLUMNS;
+    Some((*gap, list[start..start + COPY_COLUMNS].to_vec()))
 }
 
 fn read_back(list: &[u64]) -> Times {
