@@ -7,6 +7,7 @@ use crate::functions::Parameter;
 use crate::generate::Generator;
 use crate::protocol::{Argument, FUNCTIONS, Question, Reply};
 use crate::side::EXPORTED;
+use original::tables::residues;
 use std::fmt::Write as _;
 use std::fs::{self, File};
 use std::io::{self, Write as _};
@@ -78,6 +79,8 @@ struct Tally {
     answers: [u64; 19],
     /// Of the refusals 16, by residue.
     residues: [u64; 40],
+    /// Rows that were asked for all their residues, beside the one in the question.
+    whole_rows: u64,
     /// Calls that found a window or a state just as our call before had left it.
     in_turn: u64,
     /// What our last call left, where the next goes on from it.
@@ -92,6 +95,7 @@ impl Tally {
             mismatches: 0,
             answers: [0; 19],
             residues: [0; 40],
+            whole_rows: 0,
             in_turn: 0,
             left: vec![],
         };
@@ -114,13 +118,49 @@ impl Tally {
         if reply.answer.number == 16 {
             self.residues[reply.answer.value as usize] += 1;
         }
-        if ours != *reply {
-            self.mismatches += 1;
-            if self.mismatches <= SAVED {
-                save(file, self.mismatches == 1, question, reply, &ours)?;
-            }
+        self.hold(file, question, reply, &ours)?;
+        if reply.answer.number == 0 {
+            self.whole_row(file, question)?;
         }
         self.follow(question, ours);
+        Ok(())
+    }
+
+    /// Counts and saves a mismatch.
+    fn hold(
+        &mut self,
+        file: &Path,
+        asked: &Question,
+        reply: &Reply,
+        ours: &Reply,
+    ) -> io::Result<()> {
+        if ours != reply {
+            self.mismatches += 1;
+            if self.mismatches <= SAVED {
+                save(file, self.mismatches == 1, asked, reply, ours)?;
+            }
+        }
+        Ok(())
+    }
+
+    /// Of a row of the original's two tables, all residues by number.
+    fn whole_row(&mut self, file: &Path, question: &Question) -> io::Result<()> {
+        let all = match (self.name, &question.arguments[..]) {
+            ("copy_residue", [Argument::Number(gap), Argument::List(row), _]) => {
+                residues::copy_residues(*gap, row)
+            }
+            ("memw_residue", [Argument::List(row), _]) => residues::memw_residues(row),
+            _ => return Ok(()),
+        };
+        self.whole_rows += 1;
+        let mut asked = question.clone();
+        for (number, residue) in all.into_iter().enumerate() {
+            *asked.arguments.last_mut().expect("a number") = Argument::Number(number as u64);
+            let ours = EXPORTED.reply(&asked);
+            if (ours.answer.number, ours.answer.value) != (0, residue) {
+                self.hold(file, &asked, &asked.reply(), &ours)?;
+            }
+        }
         Ok(())
     }
 
@@ -155,6 +195,13 @@ impl Tally {
         text.push('\n');
         if answers[16] > 0 {
             let _ = writeln!(text, "    16 by residue, from 0 on: {:?}", self.residues);
+        }
+        if self.whole_rows > 0 {
+            let _ = writeln!(
+                text,
+                "    rows asked for all their residues: {}",
+                self.whole_rows
+            );
         }
         if self.in_turn > 0 {
             let _ = writeln!(
