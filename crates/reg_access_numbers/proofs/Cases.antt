@@ -32,9 +32,11 @@ module _ (isRead : ℕ) (a : RegAccess) (lent : List ℕ) where
   pub whole : (r : Answer) → r ≡ accessAnswer isRead a → r .number ≡ 0 → (r .value ≡ 0 → ⊥) → a .written ≡ recordAfter isRead a lent
   unfolding recordAfter recordOver
   whole r e none other =
-      rw (eq-eqb (accessAnswer isRead a .number) 0 (sym (number-same e) ∙ none), ne-eqb (accessAnswer isRead a .value) 0 (λ z. other (value-same e ∙ z)))
+      let taken = eq-eqb (accessAnswer isRead a .number) 0 (sym (number-same e) ∙ none) in
+      rw (taken, ne-eqb (accessAnswer isRead a .value) 0 (λ z. other (value-same e ∙ z)))
 
   pub front : (r : Answer) → r ≡ accessAnswer isRead a → r .number ≡ 0 → r .value ≡ 0 → take 8 (a .written) ++ drop 8 lent ≡ recordAfter isRead a lent
   unfolding recordAfter recordOver
   front r e none register =
-      rw (eq-eqb (accessAnswer isRead a .number) 0 (sym (number-same e) ∙ none), eq-eqb (accessAnswer isRead a .value) 0 (sym (value-same e) ∙ register))
+      let taken = eq-eqb (accessAnswer isRead a .number) 0 (sym (number-same e) ∙ none) in
+      rw (taken, eq-eqb (accessAnswer isRead a .value) 0 (sym (value-same e) ∙ register))
