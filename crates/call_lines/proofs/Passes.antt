@@ -12,6 +12,7 @@ use lib.ListN.{length, take, replicate, length-append, length-replicate}
 use lib.Seq.{length-take-le}
 use Rattle.answer.specs.declared.Answer.{Answer}
 use Rattle.answer.specs.Numbers as numbers
+use Rattle.answer.proofs.Parts.{number-same}
 use Rattle.records.specs.RowCount.{rowCount}
 use Rattle.records.specs.Table.{tableNumbers}
 use Rattle.records.specs.declared.TableAnswer.{TableAnswer}
@@ -29,7 +30,9 @@ use Rattle.calls.specs.Cuts.{opsOf}
 use Rattle.calls.proofs.Chained.{chain}
 use Rattle.expansion.specs.Refusals.{expansionNumbers, expansionAnswer}
 use Rattle.expansion.specs.Expansion.{callWith, callOps, lent}
+use Rattle.expansion.proofs.CallBytes.{call-bytes}
 use Rattle.expansion_cut.specs.Pieces.{Bytes}
+use Rattle.expansion_rows.proofs.HeldOps.{bytes-zeros}
 use Rattle.demand.specs.Demand.{Passes, Try, Typed, accepted, opsWritten, acceptedOps}
 use Rattle.demand.specs.Demand as demand
 use Rattle.demand.proofs.RowLists.{flatMap-length}
@@ -38,7 +41,7 @@ use Rattle.demand.proofs.GoodRecords.{records-wide, maker-answer}
 use Rattle.demand.proofs.AcceptedCalls.{ops-written}
 use Rattle.demand.proofs.Accepted.{cutTry, tries-fit, tries-wrote}
 use Rattle.demand.proofs.Demand.{demand3}
-use Rattle.line_text.specs.Pieces.{before, after}
+use Rattle.line_text.specs.Pieces.{after}
 use Rattle.line_text.specs.Lines.{lines, callOf}
 use Rattle.line_text.specs.declared.Line.{Line}
 use Rattle.line_text.specs.declared.Line.the-variants.{Call, Other}
@@ -47,7 +50,7 @@ use Rattle.call_lines.specs.Run.{Run, Ending, done, refused, OPS-ROOM, A
 use Rattle.call_lines.specs.Output.{TABLE-ROOM, tableOf, verdictOf, verdictText, endingText, start, VerdictPasses}
 use Rattle.call_lines.proofs.Accepted.{room, records-length}
 use Rattle.call_lines.proofs.Printed.{good-gap}
-use Rattle.call_lines.proofs.Typed.{call-below, bytes-zeros, call-bytes}
+use Rattle.call_lines.proofs.Typed.{call-below}
 
 -- The accepted calls as demand 3 has them
 
@@ -78,7 +81,7 @@ module _ (gap : ℕ) (kind : Functionality) (stamp src dst count : ℕ) (s : Run
 
   try-wrote : answered gap c s .number ≡ 0 → opsWritten gap t ≡ flatMap opRecord (callOps c (s .bytes))
   unfolding tryOf
-  try-wrote e = ops-written 65536 gap c (t .slices) (ap (λ (a : Answer). a .number) try-answered ∙ e)
+  try-wrote e = ops-written 65536 gap c (t .slices) (number-same try-answered ∙ e)
 
 -- one more accepted call in front
 accepted-more : (gap : ℕ) (t : Try) (tries : List Try) → demand.answered gap t .number ≡ 0
@@ -129,7 +132,7 @@ one-more gap l kind stamp src dst count s records e bytes taken later =
     let t = tryOf kind stamp src dst count s in
     let below = call-below l kind stamp src dst count e in
     let c = callWith kind stamp src dst count in
-    let number : demand.answered gap t .number ≡ 0 = ap (λ (a : Answer). a .number) (try-answered gap kind stamp src dst count s) ∙ taken in
+    let number : demand.answered gap t .number ≡ 0 = number-same (try-answered gap kind stamp src dst count s) ∙ taken in
     record {
       tries = t ∷ later .tries;
       typed = (record { stamp = below .stamp; src = below .src; dst = below .dst; count = below .count; bytes = bytes }, later .typed);

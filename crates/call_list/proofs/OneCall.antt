@@ -3,10 +3,10 @@
 use mathlib.Core.Path.{_≡_, refl, sym, ap, _∙_}
 use mathlib.Core.Bool.{true, false, cond}
 use mathlib.Core.Logic.{_⊎_, inl, inr}
-use mathlib.Core.List.{List, [], _∷_, append-nil, flatMap}
-use Prim.Native.Nat.{ℕ, zero, suc, _-_, _*_, _≤_, _<_}
+use mathlib.Core.List.{[], _∷_, append-nil, flatMap}
+use Prim.Native.Nat.{ℕ, _-_, _*_, _≤_, _<_}
 use native.Mathlib.Omega.{arith}
-use borrow.Author.Tests.{eqb-true, lt-ltb, eq-eqb, ne-eqb}
+use borrow.Author.Tests.{eqb-true, lt-ltb}
 use lib.Dec.{eqb, ltb}
 use lib.ListN.{length}
 use lib.Seq.{length-take-le}
@@ -15,15 +15,15 @@ use Rattle.records.proofs.Store.{length-store}
 use Rattle.copy_row.specs.Calls.{Call}
 use Rattle.copy_row.specs.Trace.{OP-WIDTH}
 use Rattle.window.specs.Window.{windowOf}
-use Rattle.expansion_rows.specs.Rows.{copyRowWidth, Row, rowsOf}
+use Rattle.expansion_rows.specs.Rows.{rowsOf}
 use Rattle.expansion_rows.specs.Turns.{passBytes, passStamps}
-use Rattle.expansion_rows.proofs.RowList.{rows-next}
 use Rattle.expansion_rows.proofs.Lengths.{pass-bytes-length, pass-stamps-length, held-bytes-length, held-stamps-length}
-use Rattle.expansion.specs.Refusals.{opCount, expansionAnswer, expansionNumbers}
+use Rattle.expansion.specs.Refusals.{expansionAnswer, expansionNumbers}
 use Rattle.expansion.specs.Expansion.{Lent, callBytes, callStamps, deferred, expanded, answerFor, ifExpanded, lentAfter}
 use Rattle.expansion.specs.declared.ExpansionAnswer.{ExpansionAnswer}
 use Rattle.expansion.specs.declared.ExpansionAnswer.the-variants.{Expanded, GapTooLarge, BadWindow, LastStamp, NotGapApart, PastIndex, OutsideWindow, BufferShort}
 use Rattle.expansion.proofs.Judged.{accepted-is}
+use Rattle.expansion.proofs.Cut.{op-count-pos}
 use Rattle.read_back.specs.ReadBack.{CALL-WIDTH}
 use Rattle.demand.specs.Demand.{Try, callIn, answered, opsWritten, acceptedOps, acceptedCalls}
 use Rattle.demand.proofs.AcceptedCalls.{ops-written}
@@ -42,15 +42,6 @@ pub record Taken (gap : ℕ) (t : Try) : Type 0 where
   pub some : 0 < answered gap t .value
   pub room : OP-WIDTH * answered gap t .value ≤ length (t .slices .ops)
   pub after : lentAfter 65536 gap (callIn t) (t .slices) ≡ expanded (callIn t) (t .slices)
-
-op-count-pos : (c : Call) → 0 < opCount c
-op-count-pos c = go (c .count) refl
-  where
-    go : (n : ℕ) → c .count ≡ n → 0 < opCount c
-    go zero z = rw (eq-eqb (c .count) 0 z) (omega arith)
-    go (suc n) z =
-        rw (ne-eqb (c .count) 0 (λ e. omega arith))
-        (omega (arith, ap (λ (rows : List Row). length rows) (rows-next c (copyRowWidth c) 1 refl (omega arith))))
 
 -- the records fit into the room for them, whatever is answered
 pub value-room : (gap : ℕ) (c : Call) (cells stamped room space : ℕ)

@@ -4,53 +4,18 @@ use mathlib.Core.Bool.{Bool, true, false, cond}
 use mathlib.Core.Logic.{_⊎_, inl, inr}
 use mathlib.Core.List.{List, [], _∷_, _++_}
 use Prim.Native.Nat.{ℕ, zero, suc, _+_, _^_, _<_}
-use lib.Dec.{eqb, ltb}
+use lib.Dec.{ltb}
 use lib.ListN.{getD, drop}
 use lib.Seq.{getD-drop}
-use Rattle.copy_row.specs.Calls.{Call, Op}
+use Rattle.copy_row.specs.Calls.{Call}
 use Rattle.copy_meaning.specs.Steps.{All}
-use Rattle.window.specs.Window.{writeBytes}
-use Rattle.expansion_rows.specs.Rows.{Row, rowsOf}
-use Rattle.expansion_rows.specs.Turns.{turnBytes, rowOps, passBytes}
-use Rattle.expansion_rows.specs.Held.{heldBytes, heldAllBytes}
-use Rattle.expansion_rows.proofs.HeldOps.{bytes-cells}
 use Rattle.expansion_cut.specs.Pieces.{Bytes}
-use Rattle.expansion_cut.proofs.Bytes.{bytes-take, bytes-store, bytes-turn}
-use Rattle.expansion.specs.Expansion.{Lent, callBytes, expanded, lentAfter}
+use Rattle.expansion.specs.Expansion.{Lent, expanded, lentAfter}
+use Rattle.expansion.proofs.CallBytes.{call-bytes}
 use Rattle.read_back.specs.ReadBack.{CALL-WIDTH}
 use Rattle.demand.specs.Demand.{Try, Typed, callIn}
 use Rattle.call_list.specs.CallList.{callsFrom, tryOf, handed, leaves, next, triesOf}
 use Rattle.call_list.proofs.OneCall.{Refused, Taken, outcome}
-
--- The window
-
-pass-bytes : (rs : List Row) (bytes : List ℕ) → Bytes bytes → Bytes (passBytes rs bytes)
-unfolding passBytes
-pass-bytes [] bytes h = h
-pass-bytes (r ∷ rs) bytes h = pass-bytes rs (turnBytes (r .call) (r .width) bytes) (bytes-turn (r .call) (r .width) bytes h)
-
-op-bytes : (rs : List Row) (bytes : List ℕ) → Bytes bytes → All (λ (o : Op). Bytes (o .piece .value)) (rowOps rs bytes)
-unfolding rowOps
-op-bytes [] bytes h = tt
-op-bytes (r ∷ rs) bytes h = (
-  bytes-cells bytes (r .call .src) (r .width) h,
-  op-bytes rs (turnBytes (r .call) (r .width) bytes) (bytes-turn (r .call) (r .width) bytes h),
-)
-
-held-bytes : (os : List Op) (bytes : List ℕ) → All (λ (o : Op). Bytes (o .piece .value)) os → Bytes bytes → Bytes (heldAllBytes os bytes)
-unfolding heldAllBytes writeBytes
-held-bytes [] bytes v h = h
-held-bytes (o ∷ os) bytes v h =
-    held-bytes os (heldBytes o bytes) (v .1) (bytes-store bytes (o .call .dst) _ (bytes-take (o .piece .width) (o .piece .value) (v .0)) h)
-
-call-bytes : (c : Call) (bytes : List ℕ) → Bytes bytes → Bytes (callBytes c bytes)
-unfolding callBytes heldAllBytes
-call-bytes c bytes h = go (eqb (c .kind) 0)
-  where
-    go : (b : Bool) → Bytes (heldAllBytes (cond b (rowOps (rowsOf c) bytes) []) (passBytes (rowsOf c) bytes))
-    go true =
-        held-bytes (rowOps (rowsOf c) bytes) (passBytes (rowsOf c) bytes) (op-bytes (rowsOf c) bytes h) (pass-bytes (rowsOf c) bytes h)
-    go false = pass-bytes (rowsOf c) bytes h
 
 -- Calls
 

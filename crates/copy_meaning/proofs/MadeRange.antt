@@ -13,10 +13,10 @@ use Rattle.field.specs.Field.{p}
 use Rattle.words.specs.Words.{digits}
 use Rattle.copy_row.specs.Calls.{Op, eightAt}
 use Rattle.copy_row.specs.Rows.{bit, wrapped, dstRes, muCom, rowOf}
+use Rattle.copy_row.proofs.Ops.{eight-back}
 use Rattle.copy_residues.specs.Range.{columnLimits}
 use Rattle.copy_meaning.specs.Steps.{All, PieceOk}
 use Rattle.copy_meaning.specs.RowIff.{InRange}
-use Rattle.copy_meaning.proofs.ReadBack.{eight-back}
 
 -- each number is below the limit that stands in its place
 infixr 5 _&_

@@ -1,20 +1,18 @@
 -- What is read off the row of a record is that record, and what the row hands on is what the record's wrapped sums say. So a row tells
 -- its record, and no other record has it. Assumes nothing.
 use mathlib.Core.Path.{_≡_, refl, sym}
-use mathlib.Core.List.{List}
 use mathlib.Core.Logic.{_⊎_, inl, inr}
 use Prim.Native.Nat.{ℕ, zero, suc, _+_, _-_, _*_, _^_, _≤_, _<_}
 use native.Mathlib.Omega.{arith}
 use lib.Dec.{eqb}
-use lib.ListN.{length}
 use Rattle.words.proofs.Wrap.{from-words}
 use Rattle.words.proofs.Digits.{halves-whole}
 use Rattle.copy_row.specs.Columns.{TIMESTAMP, VALUE, SRC, SRC-INCR, DST, DST-INCR, COUNT, COUNT-DECR, DST-RES}
 use Rattle.copy_row.specs.Calls.{Op, eightAt}
 use Rattle.copy_row.specs.Rows.{bit, wrapped, dstRes, rowOf}
+use Rattle.copy_row.proofs.Ops.{eight-back}
 use Rattle.copy_meaning.specs.Steps.{Words, PieceOk}
 use Rattle.copy_meaning.specs.ReadRow.{wordsAt, halvesAt, kindAt, callAt, opAt, nextAt}
-use Rattle.copy_meaning.proofs.Columns.{columns-of}
 use Rattle.copy_meaning.proofs.Plain.{widthAt}
 
 -- four halves in the form in which they are read
@@ -30,9 +28,6 @@ kind-back (suc (suc (suc k))) h = absurd (omega arith)
 width-back : (w : ℕ) → (w ≡ 1) ⊎ (w ≡ 8) → 8 - 7 * bit (eqb w 1) ≡ w
 width-back w (inl e) = rw e
 width-back w (inr e) = rw e
-
-pub eight-back : (v : List ℕ) → length v ≡ 8 → eightAt v 0 ≡ v
-eight-back v e = sym (columns-of v 8 e)
 
 module _ (mu : ℕ) (o : Op) where
   -- columns of words and of halves

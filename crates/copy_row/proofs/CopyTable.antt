@@ -1,27 +1,25 @@
--- Laws of the copy table, from those of all tables: what a made table says of its records, what each of its rows is, that numbers past
--- the rows keep their values, and what the loop needs that writes the rows. Assumes nothing.
-use mathlib.Core.Path.{_≡_, refl, ap, _∙_}
+-- Laws of the copy table, from those of all tables: what a made table says of its records, what each of its rows is, and what the
+-- loop needs that writes the rows. Assumes nothing.
+use mathlib.Core.Path.{_≡_, refl}
 use mathlib.Core.Bool.{true}
 use mathlib.Core.List.{List, _++_}
 use Prim.Native.Nat.{ℕ, zero, suc, _+_, _-_, _*_, _≤_, _<_}
 use native.Mathlib.Omega.{arith}
 use lib.Dec.{lit≤}
 use lib.ListN.{length, take, drop}
-use lib.Seq.{take-at}
-use Rattle.records.specs.Lists.{flat}
 use Rattle.records.specs.Records.{recordCount, recordAt, firstBad}
 use Rattle.records.specs.Table.{rowAt, tableAfter}
 use Rattle.records.specs.declared.TableAnswer.{TableAnswer}
 use Rattle.records.specs.declared.TableAnswer.the-variants.{Made}
-use Rattle.records.proofs.Store.{store-none, store-eq}
+use Rattle.records.proofs.Store.{store-none}
 use Rattle.records.proofs.Flat.{flat-none}
 use Rattle.records.proofs.Records.{all-good, record-whole}
 use Rattle.records.proofs.Table as tables
 use Rattle.copy_row.specs.Columns.{COLUMNS}
-use Rattle.copy_row.specs.Calls.{Op, opOf}
+use Rattle.copy_row.specs.Calls.{opOf}
 use Rattle.copy_row.specs.Rows.{tableRow, paddingRow}
 use Rattle.copy_row.specs.Trace.{OP-WIDTH, goodOp, copyRow, copyAnswer, copyAfter}
-use Rattle.copy_row.proofs.Ops.{OpWithin, good-whole, good-within}
+use Rattle.copy_row.proofs.Ops.{good-whole}
 use Rattle.copy_row.proofs.Rows.{copy-row-wide, padding-wide}
 
 -- row k of the table of ops
@@ -38,9 +36,6 @@ module _ (limit : ℕ) (ops : List ℕ) (room rows : ℕ) (made : copyAnswer lim
   -- each record is good
   pub made-good : (k : ℕ) → k < recordCount OP-WIDTH ops → goodOp (recordAt OP-WIDTH ops k) ≡ true
   made-good = all-good OP-WIDTH goodOp ops (made-facts .fine)
-
-  pub made-within : (k : ℕ) → k < recordCount OP-WIDTH ops → OpWithin (opOf (recordAt OP-WIDTH ops k))
-  made-within k h = good-within _ (made-good k h)
 
   -- and the last one is whole
   pub made-whole : OP-WIDTH * recordCount OP-WIDTH ops ≤ length ops
@@ -71,20 +66,6 @@ module _ (ops : List ℕ) where
   unfolding copyAfter
   after-length answer table = tables.after-length OP-WIDTH copyRow paddingRow ops answer table
 
-  -- and its numbers past the rows their values
-  pub past-rows : (table : List ℕ) (rows : ℕ) → drop (COLUMNS * rows) (copyAfter ops (Made rows) table) ≡ drop (COLUMNS * rows) table
-  unfolding copyAfter
-  past-rows table rows = tables.past-rows COLUMNS OP-WIDTH copyRow paddingRow copy-row-wide padding-wide ops table rows
-
-  -- the rows, joined, stand at its front
-  pub front-rows : (table : List ℕ) (rows : ℕ) → COLUMNS * rows ≤ length table
-      → take (COLUMNS * rows) (copyAfter ops (Made rows) table) ≡ flat (copyRowAt ops) rows
-  unfolding copyAfter tableAfter
-  front-rows table rows fits =
-      let joined = flat (copyRowAt ops) rows in
-      let wide = tables.rows-length COLUMNS OP-WIDTH copyRow paddingRow copy-row-wide padding-wide ops rows in
-      ap (take (COLUMNS * rows)) (store-eq table 0 joined (omega arith)) ∙ take-at joined _ _ wide
-
   -- row k
   pub made-row : (table : List ℕ) (rows k : ℕ) → COLUMNS * rows ≤ length table → k < rows
       → recordAt COLUMNS (copyAfter ops (Made rows) table) k ≡ copyRowAt ops k
@@ -98,22 +79,3 @@ module _ (ops : List ℕ) where
 
   pub row-of-none : (k : ℕ) → recordCount OP-WIDTH ops ≤ k → copyRowAt ops k ≡ paddingRow
   row-of-none k h = tables.row-padding OP-WIDTH copyRow paddingRow ops k h
-
--- what the row of each record within its limits has, and padding, every row of a made table has
-pub every-row : (P : List ℕ → Type 0) (limit : ℕ) (ops table : List ℕ) (rows : ℕ) → ((o : Op) → OpWithin o → P (tableRow o))
-    → P paddingRow → copyAnswer limit ops (length table) ≡ Made rows → (k : ℕ) → k < rows
-    → P (recordAt COLUMNS (copyAfter ops (Made rows) table) k)
-unfolding copyAnswer copyAfter
-every-row P limit ops table rows each pads made k h =
-    tables.every-row COLUMNS OP-WIDTH copyRow paddingRow copy-row-wide padding-wide ops P goodOp limit rows table
-    (λ r e. each (opOf r) (good-within r e)) pads made k h
-
--- so each is the table row of a record within its limits, or padding
-pub data RowOrPadding (row : List ℕ) : Type 0 where
-  of-record : (o : Op) → OpWithin o → row ≡ tableRow o → RowOrPadding row
-  of-padding : row ≡ paddingRow → RowOrPadding row
-
-pub row-or-padding : (limit : ℕ) (ops table : List ℕ) (rows : ℕ) → copyAnswer limit ops (length table) ≡ Made rows → (k : ℕ) → k < rows
-    → RowOrPadding (recordAt COLUMNS (copyAfter ops (Made rows) table) k)
-row-or-padding limit ops table rows made k h =
-    every-row RowOrPadding limit ops table rows (λ o w. of-record o w refl) (of-padding refl) made k h

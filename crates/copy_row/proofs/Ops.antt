@@ -1,18 +1,17 @@
 -- Operation records as 16 numbers and back, and what a record within its limits says of each field. Assumes nothing.
-use mathlib.Core.Path.{_≡_, refl, sym}
+use mathlib.Core.Path.{_≡_, sym}
 use mathlib.Core.Bool.{true}
 use mathlib.Core.List.{List, [], _∷_}
-use Prim.Native.Nat.{ℕ, zero, suc, _+_, _^_, _≤_, _<_, suc-le-suc}
+use Prim.Native.Nat.{ℕ, zero, suc, _+_, _^_, _≤_, _<_}
 use native.Mathlib.Nat.{le-of-suc-le-suc}
 use native.Mathlib.Numerals.{add-one}
 use native.Mathlib.Omega.{arith}
-use lib.Dec.{lit≤}
 use lib.ListN.{length, getD, drop, drop-of-length-le, getD-replicate}
 use lib.Seq.{drop-cons}
 use Rattle.words.proofs.Digits.{Below, below-at}
-use Rattle.records.proofs.Records.{within-length, within-at, within-all}
+use Rattle.records.proofs.Records.{within-length, within-all}
 use Rattle.copy_row.specs.Columns.{at}
-use Rattle.copy_row.specs.Calls.{Op, opRecord, opOf}
+use Rattle.copy_row.specs.Calls.{Op, opRecord, eightAt, opOf}
 use Rattle.copy_row.specs.Trace.{OP-WIDTH, opLimits, goodOp}
 
 -- There and back
@@ -27,19 +26,19 @@ numbers-same l i zero q = sym (drop-of-length-le l {i = i} (omega arith))
 numbers-same l i (suc n) q =
     rw (drop-cons l i 0 (omega arith), numbers-same l (i + 1) n (omega arith), add-one i)
 
+-- of eight numbers
+pub eight-back : (v : List ℕ) → length v ≡ 8 → eightAt v 0 ≡ v
+eight-back v e = numbers-same v 0 8 e
+
 -- of an operation record with eight value numbers
 pub op-of-record : (o : Op) → length (o .piece .value) ≡ 8 → opOf (opRecord o) ≡ o
 op-of-record o q =
     λ i. record {
       call = o .call;
-      piece = record { width = o .piece .width; value = numbers-same (o .piece .value) 0 8 q i };
+      piece = record { width = o .piece .width; value = eight-back (o .piece .value) q i };
       first = o .first;
       end = o .end;
     }
-
--- of a whole record
-pub op-record-of : (r : List ℕ) → length r ≡ OP-WIDTH → opRecord (opOf r) ≡ r
-op-record-of r q = numbers-same r 0 OP-WIDTH q
 
 pub op-record-length : (o : Op) → length (o .piece .value) ≡ 8 → length (opRecord o) ≡ OP-WIDTH
 op-record-length o q = omega arith
@@ -63,41 +62,6 @@ pub record OpWithin (o : Op) : Type 0 where
 pub good-whole : (r : List ℕ) → goodOp r ≡ true → length r ≡ OP-WIDTH
 unfolding opLimits
 good-whole r e = within-length opLimits r e
-
--- and its fields are among their values
-pub good-within : (r : List ℕ) → goodOp r ≡ true → OpWithin (opOf r)
-unfolding opLimits Below
-good-within r e =
-    record {
-      kind = most 7 (lit≤ tt);
-      stamp = below 0 (lit≤ tt);
-      src = below 1 (lit≤ tt);
-      dst = below 2 (lit≤ tt);
-      count = below 3 (lit≤ tt);
-      width = most 4 (lit≤ tt);
-      eight = refl;
-      bytes = (
-        below 8 (lit≤ tt),
-        (
-          below 9 (lit≤ tt),
-          (
-            below 10 (lit≤ tt),
-            (
-              below 11 (lit≤ tt),
-              (below 12 (lit≤ tt), (below 13 (lit≤ tt), (below 14 (lit≤ tt), (below 15 (lit≤ tt), tt)))),
-            ),
-          ),
-        ),
-      );
-      first = most 5 (lit≤ tt);
-      end = most 6 (lit≤ tt);
-    }
-  where
-    most : (i : ℕ) → i < 16 → at r i ≤ getD opLimits i 0
-    most i h = within-at opLimits r e i h
-
-    below : (i : ℕ) → i < 16 → at r i < suc (getD opLimits i 0)
-    below i h = suc-le-suc (most i h)
 
 -- an operation record whose fields are among their values is a good record
 pub within-good : (o : Op) → OpWithin o → goodOp (opRecord o) ≡ true

@@ -33,7 +33,7 @@ pub fn operation(op: &[u64]) -> CopyOperation
 }
 
 // b as a number.
-fn bit(b: bool) -> u64
+pub fn bit(b: bool) -> u64
     ensures { λ r. ⌜ r ≡ bit b ⌝ }
 {
     if b { 1 } else { 0 }

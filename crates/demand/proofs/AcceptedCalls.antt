@@ -18,7 +18,8 @@ use Rattle.expansion.proofs.Judged.{accepted-is, accepted-zero}
 use Rattle.expansion.proofs.Moved.{some-ops}
 use Rattle.expansion.proofs.Cut.{empty-ops, ops-count}
 
-ops-eight : (c : Call) (bytes : List ℕ) → All Eight (callOps c bytes)
+-- of eight value numbers each
+pub ops-eight : (c : Call) (bytes : List ℕ) → All Eight (callOps c bytes)
 ops-eight c bytes = go (c .count) refl
   where
     go : (n : ℕ) → c .count ≡ n → All Eight (callOps c bytes)

@@ -11,10 +11,11 @@ use Rattle.words.specs.Words.{wrapSub, words}
 use Rattle.copy_row.specs.Columns.{VALUE, SRC, SRC-INCR}
 use Rattle.copy_row.specs.Calls.{Call, Piece, Op, eightAt}
 use Rattle.copy_row.specs.Rows.{rowOf, tableRow}
+use Rattle.copy_row.proofs.Ops.{eight-back}
 use Rattle.copy_meaning.specs.Steps.{All, PieceOk}
 use Rattle.copy_meaning.specs.ReadRow.{wordsAt, halvesAt, callAt, opAt}
 use Rattle.copy_meaning.specs.RowIff.{CallRow}
-use Rattle.copy_meaning.proofs.ReadBack.{eight-back, call-back, src-incr-back}
+use Rattle.copy_meaning.proofs.ReadBack.{call-back, src-incr-back}
 use Rattle.chain.specs.Chain.{rowsOf}
 use Rattle.calls.specs.Cuts.{CutCall, rest, isLast, cutFrom, opsOf, Fits}
 use Rattle.calls.specs.OpChain.{group}

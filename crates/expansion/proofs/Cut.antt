@@ -14,9 +14,9 @@ use Rattle.copy_meaning.specs.Steps.{All, Words, PieceOk}
 use Rattle.calls.specs.Cuts.{cutFrom, Cut, Sound, Fits}
 use Rattle.calls.proofs.Cuts.{cut-single}
 use Rattle.window.specs.Window.{Window, windowOf}
-use Rattle.expansion_rows.specs.Rows.{Row, rowsOf}
+use Rattle.expansion_rows.specs.Rows.{copyRowWidth, Row, rowsOf}
 use Rattle.expansion_rows.specs.Turns.{inverted, valueAt, turnBytes, rowOps, passAccesses}
-use Rattle.expansion_rows.proofs.RowList.{rows-none}
+use Rattle.expansion_rows.proofs.RowList.{rows-none, rows-next}
 use Rattle.expansion_rows.proofs.Lengths.{row-ops-length, held-accesses-length, pass-accesses-length}
 use Rattle.expansion_cut.specs.Pieces.{Bytes, piecesOf}
 use Rattle.expansion_cut.proofs.Bytes.{zeros-ok}
@@ -96,6 +96,16 @@ fits gap c l words b taken =
     record { sound = sound gap c l words taken; cut = s .0; pieces = s .1 }
 
 -- Counts
+
+-- a call has a row
+pub op-count-pos : (c : Call) → 0 < opCount c
+op-count-pos c = go (c .count) refl
+  where
+    go : (n : ℕ) → c .count ≡ n → 0 < opCount c
+    go zero z = rw (eq-eqb (c .count) 0 z) (omega arith)
+    go (suc n) z =
+        rw (ne-eqb (c .count) 0 (λ e. omega arith))
+        (omega (arith, ap (λ (rows : List Row). length rows) (rows-next c (copyRowWidth c) 1 refl (omega arith))))
 
 pub ops-count : (c : Call) (bytes : List ℕ) → length (callOps c bytes) ≡ opCount c
 ops-count c bytes = step (c .count) refl

@@ -1,6 +1,7 @@
 pub mod Judged
 pub mod Moved
 pub mod Cut
+pub mod CallBytes
 pub mod At
 pub mod ByRow
 pub mod Kept

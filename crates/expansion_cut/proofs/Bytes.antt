@@ -12,18 +12,12 @@ use Rattle.copy_meaning.specs.Steps.{All, PieceOk}
 use Rattle.window.specs.Window.{cellsAt, writeBytes}
 use Rattle.window.proofs.Window.{length-cells}
 use Rattle.expansion_rows.specs.Turns.{inverted, valueAt, turnBytes}
-use Rattle.expansion_rows.proofs.HeldOps.{bytes-cells}
+use Rattle.expansion_rows.proofs.HeldOps.{bytes-take, bytes-cells}
 use Rattle.expansion_cut.specs.Pieces.{Bytes}
 
 all-bytes : (l : List ℕ) → Bytes l → All (λ (b : ℕ). b < 256) l
 all-bytes [] h = tt
 all-bytes (x ∷ l) h = (h 0, all-bytes l (λ i. h (suc i)))
-
-pub bytes-take : (n : ℕ) (l : List ℕ) → Bytes l → Bytes (take n l)
-bytes-take zero l h i = omega arith
-bytes-take (suc n) [] h i = h i
-bytes-take (suc n) (x ∷ l) h zero = h 0
-bytes-take (suc n) (x ∷ l) h (suc i) = bytes-take n l (λ j. h (suc j)) i
 
 bytes-set : (l : List ℕ) (k v : ℕ) → v < 256 → Bytes l → Bytes (set l k v)
 bytes-set [] k v g h i = h i

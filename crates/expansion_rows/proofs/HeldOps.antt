@@ -27,7 +27,7 @@ use Rattle.expansion_rows.proofs.OneTurn.{read-bytes}
 
 -- Bytes
 
-bytes-take : (n : ℕ) (l : List ℕ) → Bytes l → Bytes (take n l)
+pub bytes-take : (n : ℕ) (l : List ℕ) → Bytes l → Bytes (take n l)
 bytes-take zero l h i = omega arith
 bytes-take (suc n) [] h i = h i
 bytes-take (suc n) (x ∷ l) h zero = h zero
@@ -38,7 +38,7 @@ bytes-append [] k h q i = q i
 bytes-append (x ∷ l) k h q zero = h zero
 bytes-append (x ∷ l) k h q (suc i) = bytes-append l k (λ j. h (suc j)) q i
 
-bytes-zeros : (n : ℕ) → Bytes (replicate n 0)
+pub bytes-zeros : (n : ℕ) → Bytes (replicate n 0)
 bytes-zeros zero i = omega arith
 bytes-zeros (suc n) zero = omega arith
 bytes-zeros (suc n) (suc i) = bytes-zeros n i

@@ -4,6 +4,7 @@ use mathlib.Core.Path.{_≡_, ap}
 use Prim.Native.Nat.{ℕ, _<_, _≤_}
 use native.Mathlib.Omega.{arith}
 use borrow.Author.Tests.{lt-ltb, le-ltb}
+use Rattle.answer.proofs.Parts.{number-same, place-same, value-same}
 use Rattle.field.specs.Field.{p}
 use Rattle.field.specs.Answers.{fieldAnswer, fieldNumbers}
 use Rattle.field.specs.declared.FieldAnswer.{FieldAnswer}
@@ -23,7 +24,7 @@ element-answer a b v h k e = simp (lt-ltb a p h, lt-ltb b p k) (ap Element e)
 
 -- two answers with the same numbers are the same case with the same value
 pub fieldNumbers-injective : (x y : FieldAnswer) → fieldNumbers x ≡ fieldNumbers y → x ≡ y
-fieldNumbers-injective (Element v) (Element w) e = ap Element (ap (λ a. a .value) e)
-fieldNumbers-injective (Element v) (NotElement k) e = absurd (omega (arith, ap (λ a. a .number) e))
-fieldNumbers-injective (NotElement k) (Element v) e = absurd (omega (arith, ap (λ a. a .number) e))
-fieldNumbers-injective (NotElement j) (NotElement k) e = ap NotElement (ap (λ a. a .place) e)
+fieldNumbers-injective (Element v) (Element w) e = ap Element (value-same e)
+fieldNumbers-injective (Element v) (NotElement k) e = absurd (omega (arith, number-same e))
+fieldNumbers-injective (NotElement k) (Element v) e = absurd (omega (arith, number-same e))
+fieldNumbers-injective (NotElement j) (NotElement k) e = ap NotElement (place-same e)

@@ -6,7 +6,7 @@ use Prim.Native.Nat.{ℕ, _≤_, _<_}
 use native.Mathlib.Omega.{arith}
 use borrow.Author.Tests.{lt-ltb, le-ltb, le-leb, lt-leb, eq-eqb, ne-eqb}
 use lib.ListN.{length}
-use Rattle.answer.specs.declared.Answer.{Answer}
+use Rattle.answer.proofs.Parts.{number-same, place-same, value-same}
 use Rattle.copy_residues.specs.Range.{firstLarge}
 use Rattle.copy_residues.proofs.InRange.{each-below}
 use Rattle.memw.specs.Tables.{rowWidth}
@@ -43,19 +43,19 @@ elements row h = record { each = each-below row h }
 
 -- two answers with the same numbers are the same case with the same value
 pub residueNumbers-injective : (x y : MemwResidueAnswer) → residueNumbers x ≡ residueNumbers y → x ≡ y
-residueNumbers-injective (Residue v) (Residue w) e = ap Residue (ap (λ (z : Answer). z .value) e)
-residueNumbers-injective (Residue v) NoResidue e = absurd (omega (arith, ap (λ (z : Answer). z .number) e))
-residueNumbers-injective (Residue v) NotRow e = absurd (omega (arith, ap (λ (z : Answer). z .number) e))
-residueNumbers-injective (Residue v) (NotElement k) e = absurd (omega (arith, ap (λ (z : Answer). z .number) e))
-residueNumbers-injective NoResidue (Residue w) e = absurd (omega (arith, ap (λ (z : Answer). z .number) e))
+residueNumbers-injective (Residue v) (Residue w) e = ap Residue (value-same e)
+residueNumbers-injective (Residue v) NoResidue e = absurd (omega (arith, number-same e))
+residueNumbers-injective (Residue v) NotRow e = absurd (omega (arith, number-same e))
+residueNumbers-injective (Residue v) (NotElement k) e = absurd (omega (arith, number-same e))
+residueNumbers-injective NoResidue (Residue w) e = absurd (omega (arith, number-same e))
 residueNumbers-injective NoResidue NoResidue e = refl
-residueNumbers-injective NoResidue NotRow e = absurd (omega (arith, ap (λ (z : Answer). z .number) e))
-residueNumbers-injective NoResidue (NotElement k) e = absurd (omega (arith, ap (λ (z : Answer). z .number) e))
-residueNumbers-injective NotRow (Residue w) e = absurd (omega (arith, ap (λ (z : Answer). z .number) e))
-residueNumbers-injective NotRow NoResidue e = absurd (omega (arith, ap (λ (z : Answer). z .number) e))
+residueNumbers-injective NoResidue NotRow e = absurd (omega (arith, number-same e))
+residueNumbers-injective NoResidue (NotElement k) e = absurd (omega (arith, number-same e))
+residueNumbers-injective NotRow (Residue w) e = absurd (omega (arith, number-same e))
+residueNumbers-injective NotRow NoResidue e = absurd (omega (arith, number-same e))
 residueNumbers-injective NotRow NotRow e = refl
-residueNumbers-injective NotRow (NotElement k) e = absurd (omega (arith, ap (λ (z : Answer). z .number) e))
-residueNumbers-injective (NotElement j) (Residue w) e = absurd (omega (arith, ap (λ (z : Answer). z .number) e))
-residueNumbers-injective (NotElement j) NoResidue e = absurd (omega (arith, ap (λ (z : Answer). z .number) e))
-residueNumbers-injective (NotElement j) NotRow e = absurd (omega (arith, ap (λ (z : Answer). z .number) e))
-residueNumbers-injective (NotElement j) (NotElement k) e = ap NotElement (ap (λ (z : Answer). z .place) e)
+residueNumbers-injective NotRow (NotElement k) e = absurd (omega (arith, number-same e))
+residueNumbers-injective (NotElement j) (Residue w) e = absurd (omega (arith, number-same e))
+residueNumbers-injective (NotElement j) NoResidue e = absurd (omega (arith, number-same e))
+residueNumbers-injective (NotElement j) NotRow e = absurd (omega (arith, number-same e))
+residueNumbers-injective (NotElement j) (NotElement k) e = ap NotElement (place-same e)

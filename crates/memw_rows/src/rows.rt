@@ -7,6 +7,7 @@ ghost use Rattle.access.specs.Access.{ACCESS-WIDTH, accessOf};
 ghost use Rattle.memw_rows.specs.Rows.{writeFlags, carry, carries, stampWords, addressParts, memwRow, alignedRow, registerRow, operation, regRowOf};
 use crate::MemwOperation;
 use crate::RegRow;
+use copy_row::row::bit;
 use words::halves;
 use words::low_word;
 use words::words;
@@ -62,13 +63,6 @@ pub fn reg_row(op: &[u64]) -> RegRow
         old_timestamp_lo: op[6],
         is_read: op[7],
     }
-}
-
-// b as a number.
-fn bit(b: bool) -> u64
-    ensures { λ r. ⌜ r ≡ bit b ⌝ }
-{
-    if b { 1 } else { 0 }
 }
 
 // WRITE2, WRITE4 and WRITE8 of a width.

@@ -2,9 +2,9 @@
 -- 01 names the lowest record, row or index in each refusal that has a place. Assumes nothing.
 use mathlib.Core.Path.{_≡_, refl, sym, ap, _∙_}
 use mathlib.Core.Logic.{⊎-elim}
-use mathlib.Core.Bool.{Bool, true, false, cond, true≢false}
+use mathlib.Core.Bool.{Bool, true, false, cond}
 use Prim.Native.Nat.{ℕ, zero, suc, _+_, _-_, _≤_, _<_}
-use native.Mathlib.Nat.{eq-or-lt-of-le, le-antisymm, lt-of-not-le, le-of-suc-le-suc}
+use native.Mathlib.Nat.{eq-or-lt-of-le}
 use native.Mathlib.Omega.{arith}
 use Rattle.records.specs.Lists.{first, Lowest}
 
@@ -42,25 +42,6 @@ first-lowest test k zero =
     record { least = omega arith; most = omega arith; meets = λ h. absurd (omega arith); before = λ j a b. absurd (omega arith) }
 first-lowest test k (suc m) = lowest-step test k m _ (test k) refl (first-lowest test (k + 1) m)
 
--- and nothing else is the lowest
-lowest-le : (test : ℕ → Bool) (k m r s : ℕ) → Lowest test k m r → Lowest test k m s → r ≤ s
-lowest-le test k m r s a b =
-    le-of-suc-le-suc
-    (lt-of-not-le
-    (λ (h : suc s ≤ r).
-    let no : test s ≡ false = a .before s (b .least) h in
-    let yes : test s ≡ true = b .meets (omega (arith, a .most)) in
-    true≢false (sym yes ∙ no)))
-
-pub lowest-unique : (test : ℕ → Bool) (k m r s : ℕ) → Lowest test k m r → Lowest test k m s → r ≡ s
-lowest-unique test k m r s a b = le-antisymm (lowest-le test k m r s a b) (lowest-le test k m s r b a)
-
-pub first-le : (test : ℕ → Bool) (k m : ℕ) → first test k m ≤ k + m
-first-le test k m = first-lowest test k m .most
-
-pub first-meets : (test : ℕ → Bool) (k m : ℕ) → first test k m < k + m → test (first test k m) ≡ true
-first-meets test k m h = first-lowest test k m .meets h
-
 -- where the search runs to the end, no number meets the test
 pub first-none : (test : ℕ → Bool) (k m j : ℕ) → k + m ≤ first test k m → k ≤ j → j < k + m → test j ≡ false
 first-none test k m j h a b = first-lowest test k m .before j a (omega arith)
@@ -71,10 +52,3 @@ unfolding first
 first-all test k zero h = omega arith
 first-all test k (suc m) h =
     rw (h k (omega arith) (omega arith)) (first-all test (k + 1) m (λ j a b. h j (omega arith) (omega arith)) ∙ omega arith)
-
--- tests that agree find the same
-pub first-same : (f g : ℕ → Bool) (k m : ℕ) → ((j : ℕ) → k ≤ j → j < k + m → f j ≡ g j) → first f k m ≡ first g k m
-unfolding first
-first-same f g k zero h = refl
-first-same f g k (suc m) h =
-    rw (h k (omega arith) (omega arith), first-same f g (k + 1) m (λ j a b. h j (omega arith) (omega arith)))

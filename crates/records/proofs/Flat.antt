@@ -31,22 +31,6 @@ flat-length v g zero h = sym (mul-zero v)
 flat-length v g (suc n) h =
     rw (length-append, flat-length v g n (λ k l. h k (omega arith)), h n (omega arith), mul-suc) refl
 
--- parts that are the same, one by one, are the same joined
-pub flat-same : (f g : ℕ → List ℕ) (n : ℕ) → ((k : ℕ) → k < n → f k ≡ g k) → flat f n ≡ flat g n
-unfolding flat
-flat-same f g zero h = refl
-flat-same f g (suc n) h = rw (flat-same f g n (λ k l. h k (omega arith)), h n (omega arith))
-
--- fewer parts are no longer
-pub flat-mono : (g : ℕ → List ℕ) (n k : ℕ) → k ≤ n → length (flat g k) ≤ length (flat g n)
-unfolding flat
-flat-mono g zero k h = let e : k ≡ 0 = omega arith in rw e (omega arith)
-flat-mono g (suc n) k h =
-    ⊎-elim
-    (λ q. rw q (omega arith))
-    (λ (l : k < suc n). rw length-append (omega (arith, flat-mono g n k (le-of-suc-le-suc l))))
-    (eq-or-lt-of-le h)
-
 -- Parts that are picked
 
 pub picked-none : (test : ℕ → Bool) (g : ℕ → List ℕ) → picked test g 0 ≡ []
@@ -74,14 +58,6 @@ picked-length v test g (suc n) h =
     step true e f = rw (e, f, add-one, mul-suc) refl
     step false e f = omega arith
 
--- the part that k adds fits where all fit
-pub picked-room : (test : ℕ → Bool) (g : ℕ → List ℕ) (n k : ℕ) → test k ≡ true → k < n
-    → length (picked test g k) + length (g k) ≤ length (picked test g n)
-unfolding picked
-picked-room test g n k e h =
-    let q : length (picked test g (k + 1)) ≡ length (picked test g k) + length (g k) = rw (picked-yes test g k e, length-append) in
-    omega (arith, flat-mono (λ j. cond (test j) (g j) []) n (k + 1) (omega arith))
-
 -- How many meet a test
 
 pub counted-none : (test : ℕ → Bool) → counted test 0 ≡ 0
@@ -94,9 +70,6 @@ counted-more test k = rw (add-one k, counted)
 
 pub counted-yes : (test : ℕ → Bool) (k : ℕ) → test k ≡ true → counted test (k + 1) ≡ counted test k + 1
 counted-yes test k e = rw (counted-more, e)
-
-pub counted-no : (test : ℕ → Bool) (k : ℕ) → test k ≡ false → counted test (k + 1) ≡ counted test k
-counted-no test k e = rw (counted-more, e)
 
 pub counted-le : (test : ℕ → Bool) (n : ℕ) → counted test n ≤ n
 unfolding counted

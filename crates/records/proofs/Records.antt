@@ -15,7 +15,7 @@ use lib.Seq.{getD-take, getD-drop}
 use Rattle.records.specs.Lists.{first}
 use Rattle.records.specs.Records.{recordCount, recordAt, firstAbove, within, firstBad}
 use Rattle.records.proofs.Tests.{same-test, neither}
-use Rattle.records.proofs.First.{first-miss, first-hit, first-end, first-le, first-none, first-all}
+use Rattle.records.proofs.First.{first-miss, first-hit, first-end, first-none, first-all}
 
 -- Where record k lies
 
@@ -119,10 +119,6 @@ abbrev pub badAt : ℕ → (List ℕ → Bool) → List ℕ → ℕ → Bool
 badAt w good l k = not (good (recordAt w l k))
 
 module _ (w : ℕ) (good : List ℕ → Bool) (l : List ℕ) where
-  pub bad-le : firstBad w good l ≤ recordCount w l
-  unfolding firstBad
-  bad-le = omega (arith, first-le (badAt w good l) 0 (recordCount w l))
-
   -- where no record is refused, each is good
   pub all-good : recordCount w l ≤ firstBad w good l → (k : ℕ) → k < recordCount w l → good (recordAt w l k) ≡ true
   unfolding firstBad

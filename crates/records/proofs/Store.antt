@@ -8,7 +8,7 @@ use native.Mathlib.Nat.{add-zero}
 use native.Mathlib.Numerals.{add-one}
 use native.Mathlib.Omega.{arith}
 use lib.ListN.{length, take, drop, getD, set, length-set, length-drop, drop-of-length-le}
-use lib.Seq.{sets, sets-eq, drop-cons, length-take-le, getD-take, getD-drop, drop-drop, drop-set-lt, take-set-le}
+use lib.Seq.{sets, sets-eq, drop-cons, length-take-le, getD-take, getD-drop, drop-drop}
 use Rattle.records.specs.Lists.{store}
 
 -- Stores one by one
@@ -49,17 +49,6 @@ store-all l vs e =
     store-eq l 0 vs (omega arith)
     ∙ ap (λ (r : List ℕ). vs ++ r) (drop-of-length-le l {i = 0 + length vs} (omega arith))
     ∙ append-nil vs
-
--- numbers behind the run keep their values, and so do those before it
-pub drop-store : (l : List ℕ) (i : ℕ) (vs : List ℕ) (n : ℕ) → i + length vs ≤ n → drop n (store l i vs) ≡ drop n l
-unfolding store
-drop-store l i [] n h = refl
-drop-store l i (v ∷ vs) n h = drop-store (set l i v) (i + 1) vs n (omega arith) ∙ drop-set-lt n l i v (omega arith)
-
-pub take-store : (l : List ℕ) (i : ℕ) (vs : List ℕ) (n : ℕ) → n ≤ i → take n (store l i vs) ≡ take n l
-unfolding store
-take-store l i [] n h = refl
-take-store l i (v ∷ vs) n h = take-store (set l i v) (i + 1) vs n (omega arith) ∙ take-set-le n l i v h
 
 -- one turn of a loop that stores src from index j on, i of whose numbers it has stored; and its end
 pub store-turn : (l src : List ℕ) (j i : ℕ) → i < length src → store (set l j (getD src i 0)) (j + 1) (drop (i + 1) src) ≡ store l j (drop i src)

@@ -1,5 +1,5 @@
--- Laws of tables, for every record width, row width and limit: what a made table says of its input, what each row holds, that numbers
--- past the rows keep their values, and what a loop needs that fills a table row by row. Assumes nothing.
+-- Laws of tables, for every record width, row width and limit: what a made table says of its input, what each row holds, and what
+-- a loop needs that fills a table row by row. Assumes nothing.
 use mathlib.Core.Path.{_≡_, refl, sym, ap}
 use mathlib.Core.Logic.{_≢_}
 use mathlib.Core.Bool.{Bool, true, false, cond}
@@ -11,7 +11,7 @@ use types.Run.{OneOf, miss}
 use borrow.Author.Tests.{lt-ltb, le-ltb, le-leb, lt-leb, leb-true, ltb-true, ltb-false}
 use lib.Dec.{ltb, leb}
 use lib.ListN.{length, take, drop}
-use Rattle.answer.specs.declared.Answer.{Answer}
+use Rattle.answer.proofs.Parts.{number-same, place-same, value-same}
 use Rattle.records.specs.declared.TableAnswer.{TableAnswer}
 use Rattle.records.specs.declared.TableAnswer.the-variants.{Made, TooManyRecords, BadRecord, BufferShort}
 use Rattle.records.specs.Lists.{store, flat}
@@ -19,8 +19,8 @@ use Rattle.records.specs.Records.{recordCount, recordAt, firstBad}
 use Rattle.records.specs.RowCount.{rowCount}
 use Rattle.records.specs.Table.{tableAnswer, rowAt, tableAfter, tableNumbers}
 use Rattle.records.proofs.TableAnswer.{the-type}
-use Rattle.records.proofs.Store.{length-store, drop-store}
-use Rattle.records.proofs.Flat.{flat-length, flat-row, flat-placed}
+use Rattle.records.proofs.Store.{length-store}
+use Rattle.records.proofs.Flat.{flat-row, flat-placed}
 use Rattle.records.proofs.Records.{all-good}
 
 -- The answer
@@ -64,13 +64,10 @@ module _ (limit v n bad room : ℕ) where
   unfolding tableAnswer
   answer-made h b r = rw (le-ltb limit n h, le-ltb bad n b, le-leb (v * rowCount n) room r)
 
-number-same : {x y : Answer} → x ≡ y → x .number ≡ y .number
-number-same e = ap (λ (x : Answer). x .number) e
-
 -- document 01's numbers tell all answers apart
 module _ (over : ℕ) (not-zero : over ≢ 0) (not-nine : over ≢ 9) (not-ten : over ≢ 10) where
   pub numbers-same : (a b : TableAnswer) → tableNumbers over a ≡ tableNumbers over b → a ≡ b
-  numbers-same (Made r) (Made s) e = ap Made (ap (λ (x : Answer). x .value) e)
+  numbers-same (Made r) (Made s) e = ap Made (value-same e)
   numbers-same (Made r) TooManyRecords e = absurd (not-zero (sym (number-same e)))
   numbers-same (Made r) (BadRecord k) e = absurd (omega (arith, number-same e))
   numbers-same (Made r) BufferShort e = absurd (omega (arith, number-same e))
@@ -80,7 +77,7 @@ module _ (over : ℕ) (not-zero : over ≢ 0) (not-nine : over ≢ 9) (not-ten :
   numbers-same TooManyRecords BufferShort e = absurd (not-nine (number-same e))
   numbers-same (BadRecord j) (Made s) e = absurd (omega (arith, number-same e))
   numbers-same (BadRecord j) TooManyRecords e = absurd (not-ten (sym (number-same e)))
-  numbers-same (BadRecord j) (BadRecord k) e = ap BadRecord (ap (λ (x : Answer). x .place) e)
+  numbers-same (BadRecord j) (BadRecord k) e = ap BadRecord (place-same e)
   numbers-same (BadRecord j) BufferShort e = absurd (omega (arith, number-same e))
   numbers-same BufferShort (Made s) e = absurd (omega (arith, number-same e))
   numbers-same BufferShort TooManyRecords e = absurd (not-nine (sym (number-same e)))
@@ -110,19 +107,11 @@ module _
       step true = wide _
       step false = wide-padding
 
-  pub rows-length : (n : ℕ) → length (flat (rowAt w row padding l) n) ≡ v * n
-  rows-length n = flat-length v (rowAt w row padding l) n (λ k _. row-length k)
-
   -- a loop that fills the table: row k was lent, and came back as it should be
   pub rows-more : (table t written : List ℕ) (k : ℕ) → t ≡ store table 0 (flat (rowAt w row padding l) k) → written ≡ rowAt w row padding l k
       → v * k + v ≤ length table
       → take (v * k) t ++ (written ++ drop (v * k + v - v * k) (drop (v * k) t)) ≡ store table 0 (flat (rowAt w row padding l) (k + 1))
   rows-more table t written k q e fits = flat-placed v (rowAt w row padding l) table t written k row-length q e fits
-
-  -- numbers past the result keep their values
-  pub past-rows : (table : List ℕ) (rows : ℕ) → drop (v * rows) (tableAfter w row padding l (Made rows) table) ≡ drop (v * rows) table
-  unfolding tableAfter
-  past-rows table rows = drop-store table 0 _ (v * rows) (omega (arith, rows-length rows))
 
   -- row k of a made table
   pub made-row : (table : List ℕ) (rows k : ℕ) → v * rows ≤ length table → k < rows

@@ -1,11 +1,6 @@
--- Laws of tests: one that is never true is false, two that are true together are the same, and where neither of two is true, each is
--- false. Assumes nothing.
+-- Laws of tests: two that are true together are the same, and where neither of two is true, each is false. Assumes nothing.
 use mathlib.Core.Path.{_≡_, refl, sym}
 use mathlib.Core.Bool.{Bool, true, false, _||_, true≢false}
-
-pub never-true : (a : Bool) → (a ≡ true → ⊥) → false ≡ a
-never-true true h = absurd (h refl)
-never-true false h = refl
 
 pub same-test : (a b : Bool) → (a ≡ true → b ≡ true) → (b ≡ true → a ≡ true) → a ≡ b
 same-test true b f g = sym (f refl)

@@ -5,6 +5,7 @@ use answer::Answer;
 use classify::MemwRoute;
 use classify::route::address_fits;
 use classify::route::reg_ts_delta_in_range;
+use copy_row::row::bit;
 ghost use mathlib.Core.Path.{_≡_};
 ghost use mathlib.Core.List.{_++_};
 ghost use lib.ListN.{replicate};
@@ -96,12 +97,6 @@ fn written(
         MemwRoute::Aligned => register_access(reg_addr, v, o, timestamp, old_timestamp, read),
         MemwRoute::General => register_access(reg_addr, v, o, timestamp, old_timestamp, read),
     }
-}
-
-fn bit(b: bool) -> u64
-    ensures { λ r. ⌜ r ≡ bit b ⌝ }
-{
-    if b { 1 } else { 0 }
 }
 
 // The register table's record, and zeros behind it.

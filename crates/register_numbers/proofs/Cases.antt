@@ -6,6 +6,7 @@ use native.Mathlib.Omega.{arith}
 use borrow.Author.Tests.{eq-eqb, ne-eqb, lt-ltb, le-ltb}
 use Rattle.answer.specs.declared.Answer.{Answer}
 use Rattle.answer.specs.Numbers.{refused}
+use Rattle.answer.proofs.Parts.{number-same}
 use Rattle.copy_row.specs.Columns.{at}
 use Rattle.copy_row.specs.declared.Functionality.{Functionality}
 use Rattle.registers.specs.declared.RegisterState.{RegisterState}
@@ -43,16 +44,16 @@ module _ (kind stamp src dst count : ℕ) (l : List ℕ) where
   pub kept : (r : Answer) (records : List ℕ) → r ≡ flatAnswer kind stamp src dst count l → (r .number ≡ 0 → ⊥) → Kept r records
   unfolding stateAfter recordsAfter
   kept r records e other =
-      let no : (flatAnswer kind stamp src dst count l .number ≡ 0 → ⊥) = λ z. other (ap (λ (a : Answer). a .number) e ∙ z) in
+      let no : (flatAnswer kind stamp src dst count l .number ≡ 0 → ⊥) = λ z. other (number-same e ∙ z) in
       (e, (rw (ne-eqb (flatAnswer kind stamp src dst count l .number) 0 no), rw (ne-eqb (flatAnswer kind stamp src dst count l .number) 0 no)))
 
   pub kept-ten : (r : Answer) (records : List ℕ) → r ≡ refused 10 0 → flatAnswer kind stamp src dst count l ≡ refused 10 0 → Kept r records
-  kept-ten r records e f = kept r records (e ∙ sym f) (λ z. omega (arith, ap (λ (a : Answer). a .number) e))
+  kept-ten r records e f = kept r records (e ∙ sym f) (λ z. omega (arith, number-same e))
 
   pub written : (r : Answer) (records : List ℕ) → r ≡ flatAnswer kind stamp src dst count l → r .number ≡ 0
       → (stateNumbers (flatStep kind stamp src dst count l .state) ≡ stateAfter kind stamp src dst count l)
       × (flatStep kind stamp src dst count l .records ≡ recordsAfter kind stamp src dst count l records)
   unfolding stateAfter recordsAfter
   written r records e none =
-      let yes : flatAnswer kind stamp src dst count l .number ≡ 0 = sym (ap (λ (a : Answer). a .number) e) ∙ none in
+      let yes : flatAnswer kind stamp src dst count l .number ≡ 0 = sym (number-same e) ∙ none in
       (rw (eq-eqb (flatAnswer kind stamp src dst count l .number) 0 yes), rw (eq-eqb (flatAnswer kind stamp src dst count l .number) 0 yes))

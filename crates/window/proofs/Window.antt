@@ -10,7 +10,7 @@ use lib.Seq.{take-at, take-append-add, drop-drop, getD-take, length-take-le}
 use Rattle.records.specs.Lists.{store}
 use Rattle.records.proofs.Store.{store-none, store-more, length-store, store-eq, store-turn, store-end, run-length, run-at}
 use Rattle.copy_row.specs.Calls.{eightAt}
-use Rattle.copy_row.proofs.Ops.{numbersAt, numbers-same}
+use Rattle.copy_row.proofs.Ops.{numbersAt, eight-back}
 use Rattle.access.specs.Access.{accessRecord}
 use Rattle.window.specs.Window.{windowOf, cellsAt, writeBytes, writeStamps, memoryAccess, readAccess, writeAccess}
 
@@ -124,9 +124,6 @@ module _ (a w i t : ℕ) where
 
 -- Eight numbers, one by one
 
-pub eight : (v : List ℕ) → length v ≡ 8 → eightAt v 0 ≡ v
-eight v e = numbers-same v 0 8 e
-
 numbers-at : (l : List ℕ) (i n j : ℕ) → j < n → getD (numbersAt l i n) j 0 ≡ getD l (i + j) 0
 numbers-at l i zero j h = absurd (omega arith)
 numbers-at l i (suc n) zero h = ap (λ (k : ℕ). getD l k 0) (sym (add-zero i))
@@ -142,7 +139,7 @@ value-at op i h = numbers-at op 8 8 i h
 -- as the code puts them together
 pub access-numbers : (a t w r : ℕ) (v o s : List ℕ) → length v ≡ 8 → length o ≡ 8 → length s ≡ 8
     → 0 ∷ a ∷ (eightAt v 0 ++ (t ∷ w ∷ r ∷ (eightAt o 0 ++ eightAt s 0))) ≡ accessRecord (memoryAccess a v t w r o s)
-access-numbers a t w r v o s e f g = cc (eight v e, eight o f, eight s g)
+access-numbers a t w r v o s e f g = cc (eight-back v e, eight-back o f, eight-back s g)
 
 module _ (b s : List ℕ) (a w t : ℕ) where
   pub read-record : {u o : List ℕ} → u ≡ cellsAt b a w → o ≡ cellsAt s a w

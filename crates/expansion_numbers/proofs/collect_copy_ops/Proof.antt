@@ -3,7 +3,7 @@ use mathlib.Core.Path.{sym, ap, _∙_}
 use mathlib.Core.List.{[], _∷_}
 use denote.Ref.{now}
 use borrow.Author.Needs.{needs}
-use Rattle.answer.specs.declared.Answer.{Answer}
+use Rattle.answer.proofs.Parts.{number-same, value-same}
 use Rattle.expansion.specs.Refusals.{ExpansionNumbers}
 use Rattle.expansion.specs.Expansion.{lent}
 use Rattle.expansion_numbers.specs.ExpansionNumbers.{flatNumbers}
@@ -31,7 +31,7 @@ returns-2 c =
       same,
       (
         found .1 ∙ slices (a .kind) (a .timestamp) (a .src) (a .dst) (a .count) (a .gap) l _ kind small,
-        counts-kept (flatNumbers (a .kind) (a .timestamp) (a .src) (a .dst) (a .count) (a .gap) l) (now (a .counts)) (λ z. c .if2 .taken (ap (λ (x : Answer). x .number) same ∙ z)),
+        counts-kept (flatNumbers (a .kind) (a .timestamp) (a .src) (a .dst) (a .count) (a .gap) l) (now (a .counts)) (λ z. c .if2 .taken (number-same same ∙ z)),
       ),
     )
 
@@ -45,13 +45,13 @@ returns-3 c =
     let small = told .before .before .before .before .before .before .before .before .before .before .before .before .before .before .before .before .before .if1 .left in
     let all = found .0 ∙ numbers (a .kind) (a .timestamp) (a .src) (a .dst) (a .count) (a .gap) l _ kind small in
     let same = told .before .before .numbers .ensures ∙ ap (λ (n : ExpansionNumbers). n .answer) all in
-    let value = ap (λ (x : Answer). x .value) same in
+    let value = value-same same in
     let count = c .before .access-count .ensures ∙ ap (λ (n : ExpansionNumbers). n .accesses) all in (
       same,
       (
         found .1 ∙ slices (a .kind) (a .timestamp) (a .src) (a .dst) (a .count) (a .gap) l _ kind small,
         (λ i. value i ∷ count i ∷ [])
-            ∙ counts-written (flatNumbers (a .kind) (a .timestamp) (a .src) (a .dst) (a .count) (a .gap) l) (now (a .counts)) (sym (ap (λ (x : Answer). x .number) same) ∙ told .if2 .left),
+            ∙ counts-written (flatNumbers (a .kind) (a .timestamp) (a .src) (a .dst) (a .count) (a .gap) l) (now (a .counts)) (sym (number-same same) ∙ told .if2 .left),
       ),
     )
 

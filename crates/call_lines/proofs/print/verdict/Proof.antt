@@ -1,7 +1,8 @@
 -- `call_lines::print::verdict` meets its contract: the rows that were made fit into the table, and just these are checked. Assumes nothing.
-use mathlib.Core.Path.{_≡_, ap, _∙_}
+use mathlib.Core.Path.{_≡_, _∙_}
 use native.Mathlib.Omega.{arith}
 use Rattle.answer.specs.declared.Answer.{Answer}
+use Rattle.answer.proofs.Parts.{value-same}
 use Rattle.call_lines.proofs.Printed.{table-fits, verdict-is}
 use borrow.Author.Needs.{needs}
 use Rattle.call_lines.proofs.print.verdict.Statement.{statement}
@@ -9,7 +10,7 @@ use Rattle.call_lines.proofs.print.verdict.Tie as tie
 
 -- how many rows were made
 made-rows : {n a b : Answer} → n ≡ a → a ≡ b → n .value ≡ b .value
-made-rows e f = ap (λ (x : Answer). x .value) (e ∙ f)
+made-rows e f = value-same (e ∙ f)
 
 product-fits : tie.Need-mul-chain-check
 product-fits c =

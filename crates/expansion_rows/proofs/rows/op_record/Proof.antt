@@ -2,7 +2,7 @@
 use borrow.Author.Needs.{needs}
 use mathlib.Core.Path.{_≡_}
 use lib.ListN.{length}
-use Rattle.window.proofs.Window.{eight}
+use Rattle.copy_row.proofs.Ops.{eight-back}
 use Rattle.expansion_rows.proofs.rows.op_record.Statement.{statement}
 use Rattle.expansion_rows.proofs.rows.op_record.Tie as tie
 
@@ -10,7 +10,7 @@ returns : tie.Need-returns
 returns c =
     let v = (c .before .byte-words) .result in
     let n : length v ≡ 8 = search needs in
-    cc (eight v n, (c .before .byte-words) .ensures, (c .end-flag) .ensures)
+    cc (eight-back v n, (c .before .byte-words) .ensures, (c .end-flag) .ensures)
 
 pub op-record-spec : {M : Type 1} → statement M
 op-record-spec =
