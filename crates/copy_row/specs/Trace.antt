@@ -1,4 +1,4 @@
--- The copy table: 16-number operation records to 41-number rows, at most `limit` records (65,536 for the office). Assumes nothing.
+-- The copy table: 16-number operation records to 41-number rows, at most `limit` records (65,536 for callers). Assumes nothing.
 use Prim.Native.Nat.{ℕ, _-_, _^_}
 use mathlib.Core.Bool.{Bool}
 use mathlib.Core.List.{List, _∷_, _++_}
