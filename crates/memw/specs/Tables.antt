@@ -1,5 +1,5 @@
 -- The three access tables: access records to 49-number or 29-number rows, register records to 10-number rows, at most `limit` records
--- (65,536 for the office). Document 01: "Padding is 0 everywhere; rows are counted and placed as in the copy table." Assumes nothing.
+-- (65,536 for callers). Document 01: "Padding is 0 everywhere; rows are counted and placed as in the copy table." Assumes nothing.
 use Prim.Native.Nat.{ℕ}
 use mathlib.Core.Bool.{Bool}
 use mathlib.Core.List.{List}

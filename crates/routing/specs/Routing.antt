@@ -1,5 +1,5 @@
 -- A list of access records routed into three lists. Document 01: "Three lists in arrival order"; refusals 8, 10, 11 and 9, "lowest record
--- first, 10 before 11 in one". The limit on the records is a parameter (65,536 for the office). Assumes nothing.
+-- first, 10 before 11 in one". The limit on the records is a parameter (65,536 for callers). Assumes nothing.
 use Prim.Native.Nat.{ℕ, _*_}
 use mathlib.Core.Bool.{Bool, cond, _&&_}
 use mathlib.Core.List.{List}
