@@ -11,6 +11,7 @@ mod oracle;
 mod protocol;
 mod replay;
 mod rng;
+mod round_trips;
 mod selftest;
 mod side;
 mod sound;

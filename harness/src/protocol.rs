@@ -60,11 +60,7 @@ impl Question {
 
     /// How many numbers the question has.
     pub fn size(&self) -> usize {
-        let size = |argument: &Argument| match argument {
-            Argument::Number(_) => 1,
-            Argument::List(list) => 1 + list.len(),
-        };
-        self.arguments.iter().map(size).sum()
+        size(&self.arguments)
     }
 
     /// Whether each argument is what its parameter takes.
@@ -95,14 +91,7 @@ impl Question {
     }
 
     pub fn line(&self) -> String {
-        let mut line = self.name().to_string();
-        for argument in &self.arguments {
-            match argument {
-                Argument::Number(number) => line += &format!(" {number}"),
-                Argument::List(list) => push_list(&mut line, list),
-            }
-        }
-        line
+        self.name().to_string() + &written(&self.arguments)
     }
 
     /// The oracle's reply.
@@ -136,6 +125,27 @@ impl Reply {
         self.lent.iter().for_each(|list| push_list(&mut line, list));
         line
     }
+}
+
+/// How many numbers there are, a list's length among them.
+pub fn size(arguments: &[Argument]) -> usize {
+    let size = |argument: &Argument| match argument {
+        Argument::Number(_) => 1,
+        Argument::List(list) => 1 + list.len(),
+    };
+    arguments.iter().map(size).sum()
+}
+
+/// The numbers, a space before each, a list as its length and its numbers.
+pub fn written(arguments: &[Argument]) -> String {
+    let mut line = String::new();
+    for argument in arguments {
+        match argument {
+            Argument::Number(number) => line += &format!(" {number}"),
+            Argument::List(list) => push_list(&mut line, list),
+        }
+    }
+    line
 }
 
 fn function_named(name: &str) -> Option<usize> {

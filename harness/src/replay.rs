@@ -1,13 +1,14 @@
 //! The recorded questions and answers of the replay programs, which ask the exported
-//! functions, and the one behind `callcheck`, inside the repository's own tests. A
-//! question is a line: the function's number within the program, then its parameters, a
-//! slice as its length and its numbers. The answer is number, place, value, then each
-//! lent slice afterwards as its length and its numbers, one number to a line.
+//! functions, the one behind `callcheck`, and `round_trip`, inside the repository's own
+//! tests. A question is a line: the function's number within the program, then its
+//! parameters, a slice as its length and its numbers. The answer is number, place, value,
+//! then each lent slice afterwards as its length and its numbers, one number to a line.
 
 use crate::generate::Generator;
 use crate::inputs;
 use crate::oracle::PRIME;
-use crate::protocol::{Argument, Question, Reply};
+use crate::protocol::{self, Argument, Question, Reply};
+use crate::round_trips;
 use std::collections::BTreeMap;
 use std::fmt::Write;
 use std::fs;
@@ -92,6 +93,11 @@ const PROGRAMS: &[Program] = &[
         numbers: 16_384,
         parts: &[part("callcheck", [3, 2], 200)],
     },
+    Program {
+        name: "replay_round_trip",
+        numbers: 16_384,
+        parts: &[part("round_trip", [1, 2], 1_200)],
+    },
 ];
 
 /// A program reads fewer bytes than this.
@@ -145,8 +151,8 @@ impl Program {
                 println!("{}: does not ask {}", self.name, part.name);
                 continue;
             }
-            for (question, reply) in part.questions(seed)? {
-                script.add(number, &question, &reply);
+            for (arguments, reply) in part.recorded(seed)? {
+                script.add(number, &arguments, &reply);
             }
         }
         if script.questions.len() >= BYTES || script.numbers > self.numbers {
@@ -157,14 +163,11 @@ impl Program {
 }
 
 impl Script {
-    fn add(&mut self, function: usize, question: &Question, reply: &Reply) {
+    fn add(&mut self, function: usize, arguments: &[Argument], reply: &Reply) {
         self.asked += 1;
-        self.numbers += 1 + question.size();
-        let named = question.line();
-        let (_, parameters) = named
-            .split_once(' ')
-            .expect("every function has parameters");
-        let _ = writeln!(self.questions, "{function} {parameters}");
+        self.numbers += 1 + protocol::size(arguments);
+        let parameters = protocol::written(arguments);
+        let _ = writeln!(self.questions, "{function}{parameters}");
         self.answers += &reply.line().replace(' ', "\n");
         self.answers.push('\n');
     }
@@ -180,8 +183,20 @@ impl Part {
     fn call(&self) -> String {
         match self.name {
             "callcheck" => "call_lines::answer(".into(),
+            "round_trip" => "round_trip::round_trip(".into(),
             name => format!("exports::{name}("),
         }
+    }
+
+    /// The parameters and the reply of each question.
+    fn recorded(&self, seed: u64) -> Result<Vec<(Vec<Argument>, Reply)>, String> {
+        if self.name == "round_trip" {
+            let most = [self.answered, self.refused];
+            return Ok(round_trips::recorded(seed, most, self.longest));
+        }
+        let questions = self.questions(seed)?.into_iter();
+        let arguments = |(question, reply): (Question, Reply)| (question.arguments, reply);
+        Ok(questions.map(arguments).collect())
     }
 
     /// The questions that are always asked, then so many of each class.
