@@ -1,1 +1,2 @@
 pub mod CopyOperands
+pub mod Implied

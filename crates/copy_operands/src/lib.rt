@@ -1,1 +1,1 @@
-// That residues of a copy row are sums of operands: a theorem over the definitions, with no code of its own.
+// That residues of a copy row are sums of operands, and that residue 31 follows from others: theorems over the definitions, with no code.
