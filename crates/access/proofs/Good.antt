@@ -8,9 +8,9 @@ use native.Mathlib.Omega.{arith}
 use borrow.Author.Tests.{eqb-true}
 use lib.Dec.{eqb}
 use lib.ListN.{length}
+use Rattle.lists.specs.Lists.{at}
 use Rattle.records.specs.Records.{within}
 use Rattle.records.proofs.Records.{within-length, within-at}
-use Rattle.copy_row.specs.Columns.{at}
 use Rattle.access.specs.Access.{WIDTH, IS-READ, ACCESS-WIDTH, accessLimits, isWidth, goodAccess}
 
 -- The width

@@ -2,12 +2,11 @@
 -- timestamp, width (1, 2, 4, 8), is_read, 8 old words, 8 old stamps." Assumes nothing.
 use Prim.Native.Nat.{ℕ, _-_, _^_}
 use mathlib.Core.Bool.{Bool, _&&_, _||_}
-use mathlib.Core.List.{List, [], _∷_, _++_}
+use mathlib.Core.List.{List, _∷_, _++_}
 use lib.Dec.{eqb}
 use lib.ListN.{replicate}
+use Rattle.lists.specs.Lists.{at, eightAt}
 use Rattle.records.specs.Records.{within}
-use Rattle.copy_row.specs.Columns.{at}
-use Rattle.copy_row.specs.Calls.{eightAt}
 
 -- the place of each field in the record, by the names of `MemwOperation`; VALUE, OLD and OLD-TIMESTAMP are the first of eight
 abbrev pub IS-REGISTER : ℕ

@@ -4,7 +4,7 @@
 use Prim.Native.Nat.{ℕ}
 use mathlib.Core.List.{List, _∷_}
 use lib.ListN.{replicate}
-use Rattle.copy_row.specs.Columns.{at}
+use Rattle.lists.specs.Lists.{at}
 use Rattle.access.specs.Access.{Access}
 
 -- two numbers and six zeros

@@ -2,7 +2,7 @@
 ghost use mathlib.Core.Path.{_≡_};
 ghost use Rattle.access.specs.Access.{accessRecord, isWidth, goodAccess};
 ghost use Rattle.access.specs.RegisterAccess.{registerAccess};
-use records::lists::within_limits;
+use records::tables::within_limits;
 
 // Where the numbers stand in a record, by the names of `MemwOperation`; VALUE, OLD and OLD_TIMESTAMP are the first of eight.
 pub const IS_REGISTER: usize = 0;

@@ -5,8 +5,8 @@ use mathlib.Core.List.{List}
 use Prim.Native.Nat.{ℕ}
 use lib.Dec.{eqb}
 use Rattle.answer.specs.declared.Answer.{Answer}
-use Rattle.operands.specs.declared.PairFault.{PairFault}
 use Rattle.operands.specs.declared.AddOperand.{AddOperand}
+use Rattle.operands.specs.declared.PairFault.{PairFault}
 use Rattle.add_pair.specs.Flat.{flatOperand}
 use Rattle.add_pair.specs.Answers.{isOperand, answerOf, operandsAnswer, addPairAnswer, addPairAfter, pairNumbersOf, outAfter, addPairNumbers}
 use Rattle.add_pair.specs.declared.AddPairAnswer.{AddPairAnswer}

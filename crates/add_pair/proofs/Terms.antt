@@ -10,7 +10,7 @@ use lib.ListN.{length, List·getD-eq-default}
 use mir.Syntax.{w64}
 use mir.Val.{toZ}
 use mir.ValLaws.{toZ-pos}
-use Rattle.copy_row.specs.Columns.{at}
+use Rattle.lists.specs.Lists.{at}
 use Rattle.operands.specs.declared.AddLinearTerm.{AddLinearTerm}
 use Rattle.operands.specs.declared.AddLinearTerm.the-variants.{Constant, Column}
 use Rattle.add_pair.specs.Flat.{afterTerms, signedOf, termFrom, termAfter, termOf}

@@ -7,12 +7,12 @@ use native.Mathlib.Omega.{arith}
 use borrow.Author.Tests.{le-leb, lt-leb, lt-ltb, le-ltb, eq-eqb, ne-eqb}
 use lib.Dec.{leb}
 use lib.ListN.{length}
-use Rattle.copy_row.specs.Columns.{at}
+use Rattle.lists.specs.Lists.{at}
 use Rattle.add_pair.specs.Flat.{afterTerm, afterTerms, afterSum, isEnd, sumsForm, flatForm}
-use Rattle.add_pair.specs.declared.Walk.{Walk}
-use Rattle.add_pair.specs.declared.Walk.the-variants as walk
 use Rattle.add_pair.specs.declared.FlatForm.{FlatForm}
 use Rattle.add_pair.specs.declared.FlatForm.the-variants as form
+use Rattle.add_pair.specs.declared.Walk.{Walk}
+use Rattle.add_pair.specs.declared.Walk.the-variants as walk
 
 -- one term
 module _ (l : List ℕ) (i : ℕ) where

@@ -3,18 +3,18 @@
 use Prim.Native.Nat.{ℕ}
 use mathlib.Core.Bool.{Bool, true, false, cond, _&&_}
 use mathlib.Core.List.{List, [], _∷_}
-use Rattle.answer.specs.declared.Answer.{Answer}
 use Rattle.answer.specs.Numbers.{accepted, refused}
+use Rattle.answer.specs.declared.Answer.{Answer}
 use Rattle.operands.specs.Pairs.{residueLo, residueHi, carryHi}
 use Rattle.operands.specs.Answers.{pairFault}
+use Rattle.operands.specs.declared.AddOperand.{AddOperand}
 use Rattle.operands.specs.declared.PairFault.{PairFault}
 use Rattle.operands.specs.declared.PairFault.the-variants as fault
-use Rattle.operands.specs.declared.AddOperand.{AddOperand}
 use Rattle.add_pair.specs.Flat.{flatForm, flatOperand}
-use Rattle.add_pair.specs.declared.FlatForm.{FlatForm}
-use Rattle.add_pair.specs.declared.FlatForm.the-variants as form
 use Rattle.add_pair.specs.declared.AddPairAnswer.{AddPairAnswer}
 use Rattle.add_pair.specs.declared.AddPairAnswer.the-variants.{Written, Malformed, OutsideRow, NotRow, NotElement}
+use Rattle.add_pair.specs.declared.FlatForm.{FlatForm}
+use Rattle.add_pair.specs.declared.FlatForm.the-variants as form
 
 unfoldable pub isForm : FlatForm → Bool
 isForm (form.Words c) = true

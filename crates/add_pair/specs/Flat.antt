@@ -8,17 +8,17 @@ use mathlib.Core.List.{List, [], _∷_}
 use lib.Dec.{ltb, leb, eqb}
 use lib.IntN.{ℤ, pos, negsuc}
 use lib.ListN.{length}
-use Rattle.copy_row.specs.Columns.{at}
+use Rattle.lists.specs.Lists.{at}
 use Rattle.operands.specs.Constructors.{dword}
 use Rattle.operands.specs.declared.AddLinearTerm.{AddLinearTerm}
 use Rattle.operands.specs.declared.AddLinearTerm.the-variants.{Constant, Column}
-use Rattle.operands.specs.declared.TermCell.{TermCell}
-use Rattle.operands.specs.declared.OperandKind.the-variants as kind
 use Rattle.operands.specs.declared.AddOperand.{AddOperand}
-use Rattle.add_pair.specs.declared.Walk.{Walk}
-use Rattle.add_pair.specs.declared.Walk.the-variants as walk
+use Rattle.operands.specs.declared.OperandKind.the-variants as kind
+use Rattle.operands.specs.declared.TermCell.{TermCell}
 use Rattle.add_pair.specs.declared.FlatForm.{FlatForm}
 use Rattle.add_pair.specs.declared.FlatForm.the-variants as form
+use Rattle.add_pair.specs.declared.Walk.{Walk}
+use Rattle.add_pair.specs.declared.Walk.the-variants as walk
 
 -- ---- the form
 

@@ -7,13 +7,13 @@ use native.Mathlib.Omega.{arith}
 use lib.ListN.{length, take, length-append}
 use Rattle.answer.specs.declared.Answer.{Answer}
 use Rattle.answer.proofs.Parts.{number-same}
+use Rattle.call.specs.Calls.{Call}
+use Rattle.call.specs.Ops.{opRecord, OP-WIDTH}
 use Rattle.window.specs.Window.{windowOf}
-use Rattle.copy_row.specs.Calls.{Call, opRecord}
-use Rattle.copy_row.specs.Trace.{OP-WIDTH}
 use Rattle.expansion_rows.proofs.HeldOps.{flat-ops-length}
-use Rattle.expansion.specs.declared.ExpansionAnswer.{ExpansionAnswer}
 use Rattle.expansion.specs.Refusals.{opCount, expansionNumbers}
 use Rattle.expansion.specs.Expansion.{callOps, callBytes, callStamps, Lent, lent, expanded, answerFor, ifExpanded, lentAfter}
+use Rattle.expansion.specs.declared.ExpansionAnswer.{ExpansionAnswer}
 use Rattle.expansion.proofs.Judged.{accepted-is, accepted-zero}
 use Rattle.expansion.proofs.Cut.{op-count-pos, ops-count}
 use Rattle.demand.proofs.AcceptedCalls.{ops-eight, ops-written}

@@ -1,25 +1,26 @@
 -- The examples hold, by computing. Assumes nothing.
 use mathlib.Core.Path.{refl}
 use mathlib.Core.List.{flatMap}
+use Rattle.lists.specs.Lists.{store, flat, first}
 use Rattle.field.specs.Field.{addP, subP, mulP, bitP}
 use Rattle.field.specs.Carries.{carryP, carryLow, carryHigh}
-use Rattle.records.specs.Lists.{store, flat, first}
 use Rattle.records.specs.Records.{firstAbove, within, firstBad}
 use Rattle.records.specs.RowCount.{doubled, rowCount}
 use Rattle.records.specs.Table.{tableAnswer, rowAt, tableAfter}
-use Rattle.copy_row.specs.Rows.{rowOf, paddingRow}
-use Rattle.copy_row.specs.Trace.{opLimits, copyAnswer, copyAfter}
-use Rattle.copy_residues.specs.Range.{columnLimits, firstLarge, firstOut}
-use Rattle.copy_residues.specs.Residues.{halvesWord, step, incrLow, incrHigh, decrLow, decrHigh, resLow, resHigh, gapLow, gapHigh, borrow, impliesMu, oneHot, firstWrite, gatedBit, dstResNonWrite, singleLane, borrowImplies, borrowImpliesZero, endImplies, muComIs, muComWideIs, noWrap, gapNoWrap, residue}
-use Rattle.copy_residues.specs.RowCheck.{firstResidue, rowFault}
-use Rattle.chain.specs.Link as link
-use Rattle.chain.specs.Chain as chain
+use Rattle.call.specs.Ops.{opLimits}
 use Rattle.window.specs.Window.{cellsAt, writeBytes, writeStamps}
 use Rattle.expansion_rows.specs.Rows.{copyRowWidth, rowsWithin, rowsFrom}
 use Rattle.expansion_rows.specs.Turns.{turnBytes, turnStamps, rowOps, passBytes, passStamps}
 use Rattle.expansion_rows.specs.Held.{heldAllBytes, heldAllStamps}
 use Rattle.expansion.specs.Refusals.{refusals, expansionAnswer}
 use Rattle.expansion.specs.Expansion.{callOps, callBytes, callStamps}
+use Rattle.copy_row.specs.Rows.{rowOf, paddingRow}
+use Rattle.copy_row.specs.Trace.{copyAnswer, copyAfter}
+use Rattle.copy_residues.specs.Range.{columnLimits, firstLarge, firstOut}
+use Rattle.copy_residues.specs.Residues.{halvesWord, step, incrLow, incrHigh, decrLow, decrHigh, resLow, resHigh, gapLow, gapHigh, borrow, impliesMu, oneHot, firstWrite, gatedBit, dstResNonWrite, singleLane, borrowImplies, borrowImpliesZero, endImplies, muComIs, muComWideIs, noWrap, gapNoWrap, residue}
+use Rattle.copy_residues.specs.RowCheck.{firstResidue, rowFault}
+use Rattle.chain.specs.Link as link
+use Rattle.chain.specs.Chain as chain
 use Rattle.line_text.specs.Pieces.{indexOf, before, after, same}
 use Rattle.line_text.specs.Numbers.{isDigit, allDigits, decimalFrom, isNumber, numberOf}
 use Rattle.line_text.specs.Lines.{onto, lines, wordOf, gapOf, callOf}

@@ -8,17 +8,17 @@ use native.Mathlib.Omega.{arith}
 use borrow.Author.Tests.{leb-true, leb-false}
 use lib.Dec.{eqb, leb}
 use lib.ListN.{length, length-take, length-drop}
-use Rattle.copy_row.specs.declared.Functionality.{Functionality}
+use Rattle.call.specs.declared.Functionality.{Functionality}
 use Rattle.line_text.specs.Pieces.{indexOf, before, after, same}
 use Rattle.line_text.specs.Numbers.{numberOf}
 use Rattle.line_text.specs.Lines.{wordOf, gapOf, callOf, gapWord, copyWord, setWord, writeWord}
+use Rattle.line_text.specs.declared.Line.the-variants.{Other}
 use Rattle.line_text.specs.declared.Parsed.{Parsed}
 use Rattle.line_text.specs.declared.Parsed.the-variants.{Number, Bad}
 use Rattle.line_text.specs.declared.Word.{Word}
 use Rattle.line_text.specs.declared.Word.the-variants.{Known, Unknown}
-use Rattle.line_text.specs.declared.Line.the-variants.{Other}
-use Rattle.line_text.proofs.Forms.{call-unknown, call-no-stamp, call-no-src, call-no-dst, call-no-count, gap-whole, gap-other}
 use Rattle.line_text.proofs.Numbers.{number-long}
+use Rattle.line_text.proofs.Forms.{call-unknown, call-no-stamp, call-no-src, call-no-dst, call-no-count, gap-whole, gap-other}
 
 -- Pieces
 

@@ -7,13 +7,12 @@ use native.Mathlib.Omega.{arith}
 use borrow.Author.Tests.{ltb-true, ltb-false, eq-eqb, ne-eqb}
 use lib.Dec.{eqb, ltb}
 use lib.ListN.{length}
-use Rattle.copy_row.specs.Calls.{Call}
+use Rattle.call.specs.Calls.{Call}
 use Rattle.expansion_rows.specs.Rows.{rowsOf}
 use Rattle.expansion_rows.proofs.RowList.{rows-none}
+use Rattle.expansion.specs.Refusals.{opCount, accessCount, gapTooLarge, badWindow, lastStamp, notGapApart, pastIndex, outsideWindow, bufferShort, refusals, expansionAnswer, expansionNumbers}
 use Rattle.expansion.specs.declared.ExpansionAnswer.{ExpansionAnswer}
 use Rattle.expansion.specs.declared.ExpansionAnswer.the-variants.{Expanded, GapTooLarge, BadWindow, LastStamp, NotGapApart, PastIndex, OutsideWindow, BufferShort}
-use Rattle.expansion.specs.Refusals.{opCount, accessCount, gapTooLarge, badWindow, lastStamp, notGapApart, pastIndex, outsideWindow, bufferShort}
-use Rattle.expansion.specs.Refusals.{refusals, expansionAnswer, expansionNumbers}
 use Rattle.call_lines.specs.Run.{OPS-ROOM, ACCESSES-ROOM, answered, NineIsRows}
 use Rattle.call_lines.proofs.Accepted.{room}
 

@@ -7,16 +7,17 @@ use types.Run.{OneOf, miss}
 use denote.Enum.Declared.{tagOf}
 use borrow.Author.Tests.{ne-eqb}
 use Rattle.answer.specs.declared.Answer.{Answer}
-use Rattle.copy_row.specs.declared.Functionality.{Functionality}
+use Rattle.call.specs.Calls.{callWith}
+use Rattle.call.specs.declared.Functionality.{Functionality}
+use Rattle.expansion.specs.Refusals.{ExpansionNumbers, expansionNumbers}
+use Rattle.expansion.specs.Expansion.{Lent, answerFor, lentAfter}
 use Rattle.expansion.specs.declared.ExpansionAnswer.{ExpansionAnswer}
 use Rattle.expansion.specs.declared.ExpansionAnswer.the-variants.{Expanded, GapTooLarge, BadWindow, LastStamp, NotGapApart, PastIndex, OutsideWindow, BufferShort}
 use Rattle.expansion.proofs.ExpansionAnswer.{the-type}
-use Rattle.expansion.specs.Refusals.{ExpansionNumbers, expansionNumbers}
-use Rattle.expansion.specs.Expansion.{callWith, Lent, answerFor, lentAfter}
 use Rattle.line_text.specs.declared.Line.{Line}
 use Rattle.line_text.specs.declared.Line.the-variants.{Call, Other}
-use Rattle.call_lines.specs.declared.Step.the-variants.{Rows, Stop}
 use Rattle.call_lines.specs.Step.{stepOf, lineStep, lineAfter}
+use Rattle.call_lines.specs.declared.Step.the-variants.{Rows, Stop}
 
 -- an answer that is not Expanded, which is case 0, has a number
 abbrev Refused : ExpansionAnswer → Type 0

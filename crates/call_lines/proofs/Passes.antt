@@ -10,29 +10,31 @@ use borrow.Author.Tests.{le-leb, le-ltb, eq-eqb, eqb-true}
 use lib.Dec.{eqb}
 use lib.ListN.{length, take, replicate, length-append, length-replicate}
 use lib.Seq.{length-take-le}
-use Rattle.answer.specs.declared.Answer.{Answer}
 use Rattle.answer.specs.Numbers as numbers
+use Rattle.answer.specs.declared.Answer.{Answer}
 use Rattle.answer.proofs.Parts.{number-same}
+use Rattle.lists.specs.Lists.{All}
 use Rattle.records.specs.RowCount.{rowCount}
 use Rattle.records.specs.Table.{tableNumbers}
 use Rattle.records.specs.declared.TableAnswer.{TableAnswer}
 use Rattle.records.specs.declared.TableAnswer.the-variants.{Made}
 use Rattle.records.proofs.RowCount.{row-count-le}
-use Rattle.copy_row.specs.Columns.{COLUMNS}
-use Rattle.copy_row.specs.Calls.{Op, opRecord}
-use Rattle.copy_row.specs.Calls as calls
-use Rattle.copy_row.specs.Trace.{OP-WIDTH, copyAnswer, copyAfter}
-use Rattle.copy_row.specs.declared.Functionality.{Functionality}
-use Rattle.copy_row.proofs.CopyTable.{after-length}
-use Rattle.copy_meaning.specs.Steps.{All, LiveStep}
-use Rattle.chain.specs.Chain.{chainAnswer, chainNumbers}
-use Rattle.calls.specs.Cuts.{opsOf}
-use Rattle.calls.proofs.Chained.{chain}
-use Rattle.expansion.specs.Refusals.{expansionNumbers, expansionAnswer}
-use Rattle.expansion.specs.Expansion.{callWith, callOps, lent}
-use Rattle.expansion.proofs.CallBytes.{call-bytes}
-use Rattle.expansion_cut.specs.Pieces.{Bytes}
+use Rattle.call.specs.Calls.{Op, callWith}
+use Rattle.call.specs.Calls as calls
+use Rattle.call.specs.Ops.{opRecord, OP-WIDTH}
+use Rattle.call.specs.Cuts.{opsOf}
+use Rattle.call.specs.declared.Functionality.{Functionality}
 use Rattle.expansion_rows.proofs.HeldOps.{bytes-zeros}
+use Rattle.expansion_cut.specs.Pieces.{Bytes}
+use Rattle.expansion.specs.Refusals.{expansionNumbers, expansionAnswer}
+use Rattle.expansion.specs.Expansion.{callOps, lent}
+use Rattle.expansion.proofs.CallBytes.{call-bytes}
+use Rattle.copy_row.specs.Columns.{COLUMNS}
+use Rattle.copy_row.specs.Trace.{copyAnswer, copyAfter}
+use Rattle.copy_row.proofs.CopyTable.{after-length}
+use Rattle.copy_meaning.specs.Steps.{LiveStep}
+use Rattle.calls.proofs.Chained.{chain}
+use Rattle.chain.specs.Chain.{chainAnswer, chainNumbers}
 use Rattle.demand.specs.Demand.{Passes, Try, Typed, accepted, opsWritten, acceptedOps}
 use Rattle.demand.specs.Demand as demand
 use Rattle.demand.proofs.RowLists.{flatMap-length}

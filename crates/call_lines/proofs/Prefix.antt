@@ -11,16 +11,16 @@ use borrow.Author.Tests.{ltb-true, ltb-false, leb-true, leb-false, eqb-true}
 use lib.Dec.{eqb, ltb, leb}
 use lib.ListN.{length, take, drop, length-take}
 use lib.Seq.{take-take, take-nil}
-use Rattle.copy_row.specs.declared.Functionality.{Functionality}
-use Rattle.copy_row.specs.Calls as calls
-use Rattle.copy_row.specs.Trace.{OP-WIDTH}
-use Rattle.expansion.specs.Expansion.{callWith}
+use Rattle.call.specs.Calls as calls
+use Rattle.call.specs.Calls.{callWith}
+use Rattle.call.specs.Ops.{OP-WIDTH}
+use Rattle.call.specs.declared.Functionality.{Functionality}
 use Rattle.line_text.specs.Pieces.{indexOf, before, after}
 use Rattle.line_text.specs.Lines.{lines, gapOf, callOf}
-use Rattle.line_text.specs.declared.Parsed.{Parsed}
-use Rattle.line_text.specs.declared.Parsed.the-variants.{Number, Bad}
 use Rattle.line_text.specs.declared.Line.{Line}
 use Rattle.line_text.specs.declared.Line.the-variants.{Call, Other}
+use Rattle.line_text.specs.declared.Parsed.{Parsed}
+use Rattle.line_text.specs.declared.Parsed.the-variants.{Number, Bad}
 use Rattle.line_text.proofs.Pieces.{lines-first}
 use Rattle.row_text.specs.Rows.{refusedText}
 use Rattle.call_lines.specs.Run.{Run, refused, OPS-ROOM, answered, ranOf, onAnswer, onLine, linesFrom}

@@ -7,12 +7,13 @@ use native.Mathlib.Omega.{arith}
 use borrow.Author.Tests.{le-leb, lt-leb, eq-eqb, ne-eqb}
 use lib.ListN.{length, take, replicate}
 use Rattle.answer.specs.declared.Answer.{Answer}
-use Rattle.records.specs.Lists.{store}
+use Rattle.lists.specs.Lists.{store}
 use Rattle.records.specs.Table.{tableNumbers}
 use Rattle.records.specs.declared.TableAnswer.{TableAnswer}
 use Rattle.records.specs.declared.TableAnswer.the-variants.{Made, TooManyRecords, BadRecord, BufferShort}
+use Rattle.call.specs.Ops.{OP-WIDTH}
 use Rattle.copy_row.specs.Columns.{COLUMNS}
-use Rattle.copy_row.specs.Trace.{OP-WIDTH, copyAnswer, copyAfter}
+use Rattle.copy_row.specs.Trace.{copyAnswer, copyAfter}
 use Rattle.copy_row.proofs.CopyTable.{made-facts}
 use Rattle.chain.specs.Chain.{chainAnswer, chainNumbers}
 use Rattle.line_text.specs.Pieces.{before, after}
@@ -20,10 +21,10 @@ use Rattle.line_text.specs.Lines.{lines, gapOf}
 use Rattle.line_text.specs.declared.Parsed.the-variants.{Number, Bad}
 use Rattle.row_text.specs.Rows.{rowsText, passedText, refusedText}
 use Rattle.row_text.proofs.Wrote.{Wrote}
-use Rattle.call_lines.specs.declared.Ran.{Ran}
-use Rattle.call_lines.specs.declared.Ran.the-variants.{Done, Refused}
 use Rattle.call_lines.specs.Run.{done, linesFrom, endingOf, liveRows}
 use Rattle.call_lines.specs.Output.{TABLE-ROOM, tableOf, verdictOf, verdictText, endingText, start, outputOf}
+use Rattle.call_lines.specs.declared.Ran.{Ran}
+use Rattle.call_lines.specs.declared.Ran.the-variants.{Done, Refused}
 
 -- The verdict
 

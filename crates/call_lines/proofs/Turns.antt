@@ -10,17 +10,18 @@ use lib.Dec.{eqb}
 use lib.ListN.{length, take, drop, length-take, length-drop, drop-of-length-le}
 use lib.Seq.{take-append-add, length-take-le}
 use Rattle.answer.specs.declared.Answer.{Answer}
-use Rattle.copy_row.specs.Trace.{OP-WIDTH}
-use Rattle.expansion.specs.Expansion.{callWith, Lent, lent, lentAfter}
+use Rattle.call.specs.Calls.{callWith}
+use Rattle.call.specs.Ops.{OP-WIDTH}
+use Rattle.expansion.specs.Expansion.{Lent, lent, lentAfter}
 use Rattle.line_text.specs.Pieces.{before, after}
 use Rattle.line_text.specs.Lines.{lines, callOf}
 use Rattle.line_text.specs.declared.Line.{Line}
 use Rattle.line_text.specs.declared.Line.the-variants.{Call, Other}
 use Rattle.line_text.proofs.Pieces.{lines-at, rest-is}
-use Rattle.call_lines.specs.declared.Step.{Step}
-use Rattle.call_lines.specs.declared.Step.the-variants.{Rows, Stop}
 use Rattle.call_lines.specs.Step.{stepOf, lineStep, lineAfter}
 use Rattle.call_lines.specs.Run.{Run, run, Ending, done, refused, OPS-ROOM, ACCESSES-ROOM, answered, ranOf, onAnswer, onLine, linesFrom}
+use Rattle.call_lines.specs.declared.Step.{Step}
+use Rattle.call_lines.specs.declared.Step.the-variants.{Rows, Stop}
 use Rattle.call_lines.proofs.Accepted.{room, same-answer, left}
 
 -- What a step says of the answer

@@ -7,16 +7,16 @@ use native.Mathlib.Omega.{arith}
 use borrow.Author.Tests.{ltb-true}
 use lib.Dec.{leb, ltb}
 use lib.ListN.{length}
-use Rattle.copy_row.specs.declared.Functionality.{Functionality}
-use Rattle.copy_row.specs.Calls as calls
+use Rattle.call.specs.Calls as calls
+use Rattle.call.specs.declared.Functionality.{Functionality}
 use Rattle.line_text.specs.Pieces.{before, after}
 use Rattle.line_text.specs.Numbers.{TOP, isNumber, allDigits, decimalFrom, numberOf}
 use Rattle.line_text.specs.Lines.{wordOf, withKind, withNumber, callOf}
+use Rattle.line_text.specs.declared.Line.the-variants.{Call}
 use Rattle.line_text.specs.declared.Parsed.{Parsed}
 use Rattle.line_text.specs.declared.Parsed.the-variants.{Number, Bad}
 use Rattle.line_text.specs.declared.Word.{Word}
 use Rattle.line_text.specs.declared.Word.the-variants.{Known, Unknown}
-use Rattle.line_text.specs.declared.Line.the-variants.{Call}
 
 -- Numbers of a line
 

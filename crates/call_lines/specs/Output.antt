@@ -11,8 +11,9 @@ use lib.ListN.{length, take, replicate}
 use Rattle.answer.specs.declared.Answer.{Answer}
 use Rattle.records.specs.RowCount.{rowCount}
 use Rattle.records.specs.Table.{tableNumbers}
+use Rattle.call.specs.Ops.{OP-WIDTH}
 use Rattle.copy_row.specs.Columns.{COLUMNS}
-use Rattle.copy_row.specs.Trace.{OP-WIDTH, copyAnswer, copyAfter}
+use Rattle.copy_row.specs.Trace.{copyAnswer, copyAfter}
 use Rattle.chain.specs.Chain.{chainAnswer, chainNumbers}
 use Rattle.line_text.specs.Pieces.{before, after}
 use Rattle.line_text.specs.Lines.{lines, gapOf}

@@ -8,13 +8,13 @@ use mathlib.Core.List.{List, [], _∷_, _++_, flatMap}
 use lib.Dec.{eqb}
 use lib.ListN.{length, take}
 use Rattle.answer.specs.declared.Answer.{Answer}
-use Rattle.copy_row.specs.Calls.{opRecord}
-use Rattle.copy_row.specs.Calls as calls
-use Rattle.copy_row.specs.Trace.{OP-WIDTH}
+use Rattle.call.specs.Calls as calls
+use Rattle.call.specs.Calls.{callWith}
+use Rattle.call.specs.Ops.{opRecord, OP-WIDTH}
 use Rattle.access.specs.Access.{ACCESS-WIDTH}
 use Rattle.window.specs.Window.{windowOf}
 use Rattle.expansion.specs.Refusals.{opCount, expansionAnswer, expansionNumbers}
-use Rattle.expansion.specs.Expansion.{callWith, callOps, callBytes, callStamps}
+use Rattle.expansion.specs.Expansion.{callOps, callBytes, callStamps}
 use Rattle.line_text.specs.Lines.{callOf}
 use Rattle.line_text.specs.declared.Line.{Line}
 use Rattle.line_text.specs.declared.Line.the-variants.{Call, Other}

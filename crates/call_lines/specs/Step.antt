@@ -4,8 +4,9 @@ use Prim.Native.Nat.{ℕ}
 use mathlib.Core.Bool.{cond}
 use lib.Dec.{eqb}
 use Rattle.answer.specs.declared.Answer.{Answer}
+use Rattle.call.specs.Calls.{callWith}
 use Rattle.expansion.specs.Refusals.{expansionNumbers}
-use Rattle.expansion.specs.Expansion.{callWith, Lent, answerFor, lentAfter}
+use Rattle.expansion.specs.Expansion.{Lent, answerFor, lentAfter}
 use Rattle.line_text.specs.declared.Line.{Line}
 use Rattle.line_text.specs.declared.Line.the-variants.{Call, Other}
 use Rattle.call_lines.specs.declared.Step.{Step}

@@ -7,7 +7,7 @@ ghost use mathlib.Core.Path.{_≡_};
 ghost use mathlib.Core.Bool.{true};
 ghost use Prim.Native.Nat.{_≤_};
 ghost use lib.ListN.{length};
-ghost use Rattle.records.specs.Lists.{store};
+ghost use Rattle.lists.specs.Lists.{store};
 ghost use Rattle.call_lines.specs.Run.{NineIsRows};
 ghost use Rattle.call_lines.specs.Output.{outputOf, PrefixDecides, VerdictPasses};
 ghost use Rattle.call_lines.specs.Examples.{Examples};

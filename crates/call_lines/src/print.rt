@@ -3,7 +3,7 @@
 ghost use mathlib.Core.Path.{_≡_};
 ghost use Prim.Native.Nat.{_+_, _≤_};
 ghost use lib.ListN.{length};
-ghost use Rattle.records.specs.Lists.{store};
+ghost use Rattle.lists.specs.Lists.{store};
 ghost use Rattle.line_text.specs.Lines.{lines};
 ghost use Rattle.call_lines.specs.Run.{OPS-ROOM, done, linesFrom};
 ghost use Rattle.call_lines.specs.Output.{verdictOf, verdictText, endingText, start};

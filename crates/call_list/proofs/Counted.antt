@@ -4,10 +4,10 @@ use mathlib.Core.List.{List, [], _∷_, flatMap}
 use Prim.Native.Nat.{ℕ, _-_, _*_, _≤_}
 use native.Mathlib.Omega.{arith}
 use lib.ListN.{length, length-append}
-use Rattle.copy_row.specs.Calls.{Call}
-use Rattle.copy_row.specs.Trace.{OP-WIDTH}
+use Rattle.call.specs.Calls.{Call}
+use Rattle.call.specs.Ops.{OP-WIDTH}
+use Rattle.call.specs.Flat.{CALL-WIDTH}
 use Rattle.expansion.specs.Expansion.{Lent}
-use Rattle.read_back.specs.ReadBack.{CALL-WIDTH}
 use Rattle.demand.specs.Demand.{acceptedOps, acceptedCalls}
 use Rattle.call_list.specs.CallList.{handed, next, triesOf}
 use Rattle.call_list.specs.Counts.{allRecords, allCalls}

@@ -6,10 +6,10 @@ use Prim.Native.Nat.{ℕ, _+_, _-_, _*_, _/_, _≤_, _<_}
 use native.Mathlib.Omega.{arith}
 use lib.Dec.{ltb}
 use lib.ListN.{length, drop}
-use Rattle.copy_row.specs.Calls.{Call}
-use Rattle.copy_row.specs.Trace.{OP-WIDTH}
-use Rattle.read_back.specs.ReadBack.{CALL-WIDTH}
-use Rattle.call_list.specs.CallList.{firstCall, callsIn}
+use Rattle.call.specs.Calls.{Call}
+use Rattle.call.specs.Ops.{OP-WIDTH}
+use Rattle.call.specs.Flat.{HANDED-WIDTH, firstCall}
+use Rattle.call_list.specs.CallList.{callsIn}
 use Rattle.call_list.specs.Counts.{recordsOf, allRecords, allCalls}
 use Rattle.call_list.proofs.Walk.{remaining, walk-start, walk-more, walk-end}
 
@@ -27,7 +27,7 @@ bit-small true = omega arith
 bit-small false = omega arith
 
 module _ (gap : ℕ) (calls : List ℕ) (cells stamped room space : ℕ) where
-  pub count-start : CountAt gap (length calls / CALL-WIDTH) calls cells stamped room space 0 0 0
+  pub count-start : CountAt gap (length calls / HANDED-WIDTH) calls cells stamped room space 0 0 0
   count-start =
       let same = walk-start calls in
       let all : room - OP-WIDTH * 0 ≡ room = omega arith in
@@ -40,7 +40,7 @@ module _ (gap : ℕ) (calls : List ℕ) (cells stamped room space : ℕ) where
       }
 
   module _ (n ops accepted k : ℕ) (at : CountAt gap n calls cells stamped room space ops accepted k) where
-    pub count-turn : k < n → (c : Call) → c ≡ firstCall (drop (CALL-WIDTH * k) calls)
+    pub count-turn : k < n → (c : Call) → c ≡ firstCall (drop (HANDED-WIDTH * k) calls)
         → (added accepted′ : ℕ) → added ≡ recordsOf gap c cells stamped (room - OP-WIDTH * ops) space
         → OP-WIDTH * added ≤ room - OP-WIDTH * ops → accepted′ ≡ accepted + cond (ltb 0 added) 1 0
         → CountAt gap n calls cells stamped room space (ops + added) accepted′ (k + 1)

@@ -1,17 +1,17 @@
 -- The loop that expands calls one by one: finishing from here gives the whole. Assumes nothing.
 use mathlib.Core.Path.{_≡_, refl, sym, ap, _∙_}
 use mathlib.Core.List.{List, _∷_, flatMap}
-use Prim.Native.Nat.{ℕ, _+_, _-_, _*_, _/_, _≤_, _<_}
+use Prim.Native.Nat.{ℕ, _+_, _*_, _/_, _≤_, _<_}
 use native.Mathlib.Omega.{arith}
 use lib.ListN.{length, drop}
-use Rattle.records.specs.Lists.{store}
-use Rattle.records.proofs.Store.{length-store, store-none, store-append}
-use Rattle.copy_row.specs.Calls.{Call}
-use Rattle.copy_row.specs.Trace.{OP-WIDTH}
+use Rattle.lists.specs.Lists.{store}
+use Rattle.lists.proofs.Store.{length-store, store-none, store-append}
+use Rattle.call.specs.Calls.{Call}
+use Rattle.call.specs.Ops.{OP-WIDTH}
+use Rattle.call.specs.Flat.{HANDED-WIDTH, firstCall}
 use Rattle.expansion.specs.Expansion.{Lent, lent}
-use Rattle.read_back.specs.ReadBack.{CALL-WIDTH}
 use Rattle.demand.specs.Demand.{acceptedOps}
-use Rattle.call_list.specs.CallList.{firstCall, callsIn, handed, next, triesOf, lastLeaves, allExpanded, Turned}
+use Rattle.call_list.specs.CallList.{callsIn, handed, next, triesOf, lastLeaves, allExpanded, Turned}
 use Rattle.call_list.proofs.InTurn.{next-bytes, next-stamps, next-accesses, more-ops, more-left}
 use Rattle.call_list.proofs.Walk.{remaining, walk-start, walk-more, walk-end}
 
@@ -30,7 +30,7 @@ pub record Going (gap n : ℕ) (calls bytes₀ stamps₀ ops₀ accesses₀ byte
       ≡ lastLeaves gap (callsIn calls) (lent bytes₀ stamps₀ ops₀ accesses₀)
 
 module _ (gap : ℕ) (calls bytes₀ stamps₀ ops₀ accesses₀ : List ℕ) where
-  pub going-start : Going gap (length calls / CALL-WIDTH) calls bytes₀ stamps₀ ops₀ accesses₀ bytes₀ stamps₀ ops₀ accesses₀ 0 0
+  pub going-start : Going gap (length calls / HANDED-WIDTH) calls bytes₀ stamps₀ ops₀ accesses₀ bytes₀ stamps₀ ops₀ accesses₀ 0 0
   going-start =
       let l = lent bytes₀ stamps₀ ops₀ accesses₀ in
       let same = walk-start calls in
@@ -50,7 +50,7 @@ module _ (gap : ℕ) (calls bytes₀ stamps₀ ops₀ accesses₀ : List ℕ) wh
     abbrev here : Lent
     here = lent bytes stamps (drop (OP-WIDTH * done) ops) accesses
 
-    pub going-turn : k < n → (c : Call) → c ≡ firstCall (drop (CALL-WIDTH * k) calls)
+    pub going-turn : k < n → (c : Call) → c ≡ firstCall (drop (HANDED-WIDTH * k) calls)
         → (bytes′ stamps′ ops′ accesses′ : List ℕ) (r : ℕ) → Turned gap c done bytes stamps ops accesses bytes′ stamps′ ops′ accesses′ r
         → Going gap n calls bytes₀ stamps₀ ops₀ accesses₀ bytes′ stamps′ ops′ accesses′ (done + r) (k + 1)
     going-turn h c e bytes′ stamps′ ops′ accesses′ r t =

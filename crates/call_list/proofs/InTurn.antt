@@ -9,15 +9,14 @@ use borrow.Author.Tests.{ltb-true, ltb-false, lt-ltb, le-ltb}
 use lib.Dec.{eqb, ltb}
 use lib.ListN.{length, take, drop, length-drop, drop-of-length-le}
 use lib.Seq.{take-all, drop-drop, drop-at, length-take-le}
-use Rattle.records.specs.Lists.{store}
-use Rattle.records.proofs.Store.{store-none, store-eq, part-store}
-use Rattle.copy_row.specs.Calls.{Call, kindNumber}
-use Rattle.copy_row.specs.Trace.{OP-WIDTH}
-use Rattle.register_numbers.specs.RegisterNumbers.{kindOf}
-use Rattle.expansion_rows.proofs.Lengths.{flatMap-append}
+use Rattle.lists.specs.Lists.{store}
+use Rattle.lists.proofs.Joined.{flatMap-append}
+use Rattle.lists.proofs.Store.{store-none, store-eq, part-store}
+use Rattle.call.specs.Calls.{Call, kindNumber, kindOf}
+use Rattle.call.specs.Ops.{OP-WIDTH}
+use Rattle.call.specs.Flat.{CALL-WIDTH, callNumbers}
 use Rattle.expansion.specs.Refusals.{expansionNumbers}
 use Rattle.expansion.specs.Expansion.{Lent, lent, answerFor, lentAfter}
-use Rattle.read_back.specs.ReadBack.{CALL-WIDTH, callNumbers}
 use Rattle.demand.specs.Demand.{Try, callIn, answered, accepted, opsWritten, acceptedOps, acceptedCalls}
 use Rattle.call_list.specs.CallList.{tryOf, handed, leaves, next, triesOf, lastLeaves, Turned}
 use Rattle.call_list.specs.Counts.{recordsOf}

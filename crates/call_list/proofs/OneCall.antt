@@ -4,16 +4,17 @@ use mathlib.Core.Path.{_≡_, refl, sym, ap, _∙_}
 use mathlib.Core.Bool.{true, false, cond}
 use mathlib.Core.Logic.{_⊎_, inl, inr}
 use mathlib.Core.List.{[], _∷_, append-nil, flatMap}
-use Prim.Native.Nat.{ℕ, _-_, _*_, _≤_, _<_}
+use Prim.Native.Nat.{ℕ, _*_, _≤_, _<_}
 use native.Mathlib.Omega.{arith}
 use borrow.Author.Tests.{eqb-true, lt-ltb}
 use lib.Dec.{eqb, ltb}
 use lib.ListN.{length}
 use lib.Seq.{length-take-le}
-use Rattle.records.specs.Lists.{store}
-use Rattle.records.proofs.Store.{length-store}
-use Rattle.copy_row.specs.Calls.{Call}
-use Rattle.copy_row.specs.Trace.{OP-WIDTH}
+use Rattle.lists.specs.Lists.{store}
+use Rattle.lists.proofs.Store.{length-store}
+use Rattle.call.specs.Calls.{Call}
+use Rattle.call.specs.Ops.{OP-WIDTH}
+use Rattle.call.specs.Flat.{CALL-WIDTH}
 use Rattle.window.specs.Window.{windowOf}
 use Rattle.expansion_rows.specs.Rows.{rowsOf}
 use Rattle.expansion_rows.specs.Turns.{passBytes, passStamps}
@@ -24,7 +25,6 @@ use Rattle.expansion.specs.declared.ExpansionAnswer.{ExpansionAnswer}
 use Rattle.expansion.specs.declared.ExpansionAnswer.the-variants.{Expanded, GapTooLarge, BadWindow, LastStamp, NotGapApart, PastIndex, OutsideWindow, BufferShort}
 use Rattle.expansion.proofs.Judged.{accepted-is}
 use Rattle.expansion.proofs.Cut.{op-count-pos}
-use Rattle.read_back.specs.ReadBack.{CALL-WIDTH}
 use Rattle.demand.specs.Demand.{Try, callIn, answered, opsWritten, acceptedOps, acceptedCalls}
 use Rattle.demand.proofs.AcceptedCalls.{ops-written}
 

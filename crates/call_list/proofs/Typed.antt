@@ -7,12 +7,12 @@ use Prim.Native.Nat.{ℕ, zero, suc, _+_, _^_, _<_}
 use lib.Dec.{ltb}
 use lib.ListN.{getD, drop}
 use lib.Seq.{getD-drop}
-use Rattle.copy_row.specs.Calls.{Call}
-use Rattle.copy_meaning.specs.Steps.{All}
+use Rattle.lists.specs.Lists.{All}
+use Rattle.call.specs.Calls.{Call}
+use Rattle.call.specs.Flat.{HANDED-WIDTH}
 use Rattle.expansion_cut.specs.Pieces.{Bytes}
 use Rattle.expansion.specs.Expansion.{Lent, expanded, lentAfter}
 use Rattle.expansion.proofs.CallBytes.{call-bytes}
-use Rattle.read_back.specs.ReadBack.{CALL-WIDTH}
 use Rattle.demand.specs.Demand.{Try, Typed, callIn}
 use Rattle.call_list.specs.CallList.{callsFrom, tryOf, handed, leaves, next, triesOf}
 use Rattle.call_list.proofs.OneCall.{Refused, Taken, outcome}
@@ -27,7 +27,7 @@ pub calls-wide : (n : ℕ) (l : List ℕ) → ((i : ℕ) → getD l i 0 < 2 ^ 64
 unfolding callsFrom
 calls-wide zero l h = tt
 calls-wide (suc n) l h =
-    ((h 1, h 2, h 3, h 4), calls-wide n (drop CALL-WIDTH l) (λ i. rw (getD-drop CALL-WIDTH l i 0) (h (CALL-WIDTH + i))))
+    ((h 1, h 2, h 3, h 4), calls-wide n (drop HANDED-WIDTH l) (λ i. rw (getD-drop HANDED-WIDTH l i 0) (h (HANDED-WIDTH + i))))
 
 module _ (gap : ℕ) where
   after-bytes : (t : Try) → Bytes (t .slices .bytes) → Bytes (lentAfter 65536 gap (callIn t) (t .slices) .bytes)

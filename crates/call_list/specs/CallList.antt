@@ -7,29 +7,23 @@ use mathlib.Core.List.{List, [], _∷_, _++_}
 use Prim.Native.Nat.{ℕ, zero, suc, _+_, _*_, _/_, _≤_}
 use lib.Dec.{ltb}
 use lib.ListN.{length, drop}
-use Rattle.records.specs.Lists.{store}
-use Rattle.copy_row.specs.Columns.{at}
-use Rattle.copy_row.specs.Calls.{Call}
-use Rattle.copy_row.specs.Trace.{OP-WIDTH}
-use Rattle.register_numbers.specs.RegisterNumbers.{kindOf}
+use Rattle.lists.specs.Lists.{store}
+use Rattle.call.specs.Calls.{Call, kindOf}
+use Rattle.call.specs.Ops.{OP-WIDTH}
+use Rattle.call.specs.Flat.{HANDED-WIDTH, firstCall}
 use Rattle.expansion.specs.Expansion.{Lent, lent, lentAfter}
-use Rattle.read_back.specs.ReadBack.{CALL-WIDTH}
 use Rattle.demand.specs.Demand.{Try, callIn, answered, acceptedOps}
 
 -- A flat list of calls
 
--- the call in the first five numbers: kind, stamp, src, dst, count
-abbrev pub firstCall : List ℕ → Call
-firstCall l = record { kind = at l 0; stamp = at l 1; src = at l 2; dst = at l 3; count = at l 4 }
-
 -- n calls from the front
 unfoldable pub callsFrom : ℕ → List ℕ → List Call
 callsFrom zero l = []
-callsFrom (suc n) l = firstCall l ∷ callsFrom n (drop CALL-WIDTH l)
+callsFrom (suc n) l = firstCall l ∷ callsFrom n (drop HANDED-WIDTH l)
 
 -- all of them; numbers behind the last whole five are not read
 unfoldable pub callsIn : List ℕ → List Call
-callsIn l = callsFrom (length l / CALL-WIDTH) l
+callsIn l = callsFrom (length l / HANDED-WIDTH) l
 
 -- One call
 

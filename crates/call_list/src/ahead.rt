@@ -3,16 +3,17 @@
 ghost use mathlib.Core.Path.{_≡_};
 ghost use Prim.Native.Nat.{_*_, _≤_};
 ghost use lib.ListN.{length};
-ghost use Rattle.copy_row.specs.Trace.{OP-WIDTH};
-ghost use Rattle.expansion_rows.specs.Rows.{callOf};
-ghost use Rattle.read_back.specs.ReadBack.{CALL-WIDTH};
+ghost use Rattle.call.specs.Calls.{callOf};
+ghost use Rattle.call.specs.Ops.{OP-WIDTH};
+ghost use Rattle.call.specs.Flat.{HANDED-WIDTH};
 ghost use Rattle.call_list.specs.CallList.{callsIn};
 ghost use Rattle.call_list.specs.Counts.{recordsOf, allRecords, allCalls};
 use crate::Counts;
-use crate::call::call_at;
-use crate::call::records_in;
+use call::CopyCall;
+use call::HANDED_WIDTH;
+use call::flat::call_at;
 use expansion::judge::expansion_answer;
-use expansion_rows::CopyCall;
+use expansion::records_in;
 
 // How many records a call adds, in a window and with room as given. A refused call adds none, and so does one of a kind above 2.
 fn records_of(
@@ -43,9 +44,9 @@ pub fn count(
 ) -> Counts
     ensures ops { λ r. ⌜ r .ops ≡ allRecords gap (callsIn (now (calls .entry))) cells stamped room space ⌝ }
     ensures calls { λ r. ⌜ r .calls ≡ allCalls gap (callsIn (now (calls .entry))) cells stamped room space ⌝ }
-    ensures few { λ r. ⌜ CALL-WIDTH * r .calls ≤ length (now (calls .entry)) ⌝ }
+    ensures few { λ r. ⌜ HANDED-WIDTH * r .calls ≤ length (now (calls .entry)) ⌝ }
 {
-    let n = calls.len() / 5;
+    let n = calls.len() / HANDED_WIDTH;
     let mut ops = 0;
     let mut accepted = 0;
     let mut k = 0;

@@ -1,6 +1,5 @@
 // A list of calls that go to the expansion in turn over one window. Nothing here is open to callers. Assumes nothing.
 pub mod ahead;
-pub mod call;
 pub mod turns;
 
 // How many operation records the expansion writes, and how many calls it accepts.

@@ -3,14 +3,15 @@
 ghost use mathlib.Core.Path.{_≡_};
 ghost use Prim.Native.Nat.{_*_, _≤_};
 ghost use lib.ListN.{length};
-ghost use Rattle.copy_row.specs.Trace.{OP-WIDTH};
+ghost use Rattle.call.specs.Calls.{callOf};
+ghost use Rattle.call.specs.Ops.{OP-WIDTH};
 ghost use Rattle.expansion.specs.Expansion.{lent};
-ghost use Rattle.expansion_rows.specs.Rows.{callOf};
 ghost use Rattle.call_list.specs.CallList.{callsIn, allExpanded, Turned};
-use crate::call::call_at;
-use crate::call::records_in;
+use call::CopyCall;
+use call::HANDED_WIDTH;
+use call::flat::call_at;
 use expansion::expand::expand;
-use expansion_rows::CopyCall;
+use expansion::records_in;
 
 // Expands a call behind `done` records, and answers how many it adds. A refused call is passed over, and so is one of a kind above 2.
 fn expand_next(
@@ -44,7 +45,7 @@ pub fn expand_all(
 )
     ensures { λ _. ⌜ lent (now (bytes .exit)) (now (stamps .exit)) (now (ops .exit)) (now (accesses .exit)) ≡ allExpanded gap (callsIn (now (calls .entry))) (lent (now (bytes .entry)) (now (stamps .entry)) (now (ops .entry)) (now (accesses .entry))) ⌝ }
 {
-    let n = calls.len() / 5;
+    let n = calls.len() / HANDED_WIDTH;
     let mut done = 0;
     let mut k = 0;
     while k < n {

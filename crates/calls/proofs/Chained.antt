@@ -6,13 +6,15 @@ use mathlib.Core.Option.{Option, none, some}
 use mathlib.Core.Logic.{_⊎_, inl, inr}
 use Prim.Native.Nat.{ℕ, _+_, _-_, _^_, _≤_, _<_}
 use native.Mathlib.Omega.{arith}
-use Rattle.copy_row.specs.Calls.{Call, Piece, Op}
+use Rattle.lists.specs.Lists.{All}
+use Rattle.call.specs.Calls.{Call, Piece, Op}
+use Rattle.call.specs.Cuts.{CutCall, rest, isLast, cutFrom, opsOf, total, Fits}
+use Rattle.call.proofs.Cuts.{width-pos, Ways, whole, single, cut-none, cut-ways, cut-whole}
 use Rattle.copy_row.specs.Rows.{wrapped}
-use Rattle.copy_meaning.specs.Steps.{All, Move, empty, ends, more, LiveStep}
-use Rattle.calls.specs.Cuts.{CutCall, rest, isLast, cutFrom, opsOf, total, Fits}
+use Rattle.copy_meaning.specs.Steps.{Move, empty, ends, more, LiveStep}
 use Rattle.calls.specs.OpChain.{Opens, Chain, ChainIff}
-use Rattle.calls.proofs.Cuts.{width-pos, Ways, whole, single, cut-none, cut-ways, cut-whole, unwrapped}
 use Rattle.calls.proofs.Parse.{parse}
+use Rattle.calls.proofs.Unwrapped.{unwrapped}
 
 -- a piece stands first, or a byte is left
 abbrev Marked : ℕ → ℕ → Type 0

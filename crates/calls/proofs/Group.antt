@@ -5,9 +5,9 @@ use mathlib.Core.List.{List, [], _∷_, _++_}
 use Prim.Native.Nat.{ℕ, _<_}
 use native.Mathlib.Omega.{arith}
 use lib.ListN.{length}
-use Rattle.copy_row.specs.Calls.{Call, Piece, Op}
-use Rattle.calls.specs.Cuts.{rest, cutFrom, opsOf}
-use Rattle.calls.specs.OpChain.{withNext, group, GroupIs, firsts, callsOf, FirstsAre}
+use Rattle.call.specs.Calls.{Call, Piece, Op}
+use Rattle.call.specs.Cuts.{rest, cutFrom, opsOf, callsOf}
+use Rattle.calls.specs.OpChain.{withNext, group, GroupIs, firsts, FirstsAre}
 
 group-from : (c : Call) (f : ℕ) (piece : Piece) (pieces : List Piece) (t : List Op)
     → group (cutFrom c f (piece ∷ pieces) ++ t) ≡ record { call = c; pieces = piece ∷ pieces } ∷ group t

@@ -1,4 +1,4 @@
-pub mod Cuts
 pub mod Parse
 pub mod Chained
 pub mod Group
+pub mod Unwrapped

@@ -6,12 +6,14 @@ use mathlib.Core.Option.{Option, none, some}
 use mathlib.Core.Logic.{_⊎_, inl, inr}
 use Prim.Native.Nat.{ℕ, _+_, _-_, _^_, _≤_, _<_}
 use native.Mathlib.Omega.{arith}
-use Rattle.copy_row.specs.Calls.{Call, Piece, Op}
+use Rattle.lists.specs.Lists.{All}
+use Rattle.call.specs.Calls.{Call, Piece, Op}
+use Rattle.call.specs.Cuts.{CutCall, rest, cutFrom, opsOf, Cut, Fits}
+use Rattle.call.proofs.Cuts.{width-pos, whole, single, cut-none, cut-ways, cut-whole, cut-single}
 use Rattle.copy_row.specs.Rows.{wrapped}
-use Rattle.copy_meaning.specs.Steps.{All, Move, empty, ends, more, LiveStep}
-use Rattle.calls.specs.Cuts.{CutCall, rest, cutFrom, opsOf, Cut, Fits}
+use Rattle.copy_meaning.specs.Steps.{Move, empty, ends, more, LiveStep}
 use Rattle.calls.specs.OpChain.{next, Opens, Chain}
-use Rattle.calls.proofs.Cuts.{width-pos, whole, single, cut-none, cut-ways, cut-whole, cut-single, unwrapped}
+use Rattle.calls.proofs.Unwrapped.{unwrapped}
 
 -- the records are those of the call c, whose first one has FIRST f, and of whole calls after it
 pub record Parsed (gap : ℕ) (c : Call) (f : ℕ) (os : List Op) : Type 0 where

@@ -3,13 +3,13 @@
 use mathlib.Core.Path.{_≡_}
 use mathlib.Core.Logic.{_↔_}
 use mathlib.Core.Option.{Option, none, some}
-use mathlib.Core.List.{List, [], _∷_, map}
-use Prim.Native.Nat.{ℕ, zero, suc, _<_}
-use lib.ListN.{length}
-use Rattle.copy_row.specs.Calls.{Call, Op}
+use mathlib.Core.List.{List, [], _∷_}
+use Prim.Native.Nat.{ℕ, zero, suc}
+use Rattle.lists.specs.Lists.{All}
+use Rattle.call.specs.Calls.{Call, Op}
+use Rattle.call.specs.Cuts.{HasRow, callsOf, CutCall, opsOf, Fits}
 use Rattle.copy_row.specs.Rows.{wrapped}
-use Rattle.copy_meaning.specs.Steps.{All, LiveStep}
-use Rattle.calls.specs.Cuts.{CutCall, opsOf, Fits}
+use Rattle.copy_meaning.specs.Steps.{LiveStep}
 
 -- what the record after one with this END must go on with: nothing after END
 abbrev pub unlessEnd : ℕ → Call → Option Call
@@ -44,10 +44,6 @@ abbrev pub group : List Op → List CutCall
 group [] = []
 group (o ∷ os) = withNext (o .end) o (group os)
 
--- a cut call with a row
-abbrev pub HasRow : CutCall → Type 0
-HasRow k = 0 < length (k .pieces)
-
 -- whatever cut calls a list of operation records is made of, sound or not, `group` gives them
 abbrev pub GroupIs : Type 0
 GroupIs = (ks : List CutCall) → All HasRow ks → group (opsOf ks) ≡ ks
@@ -60,9 +56,6 @@ ifFirst (suc n) c cs = c ∷ cs
 abbrev pub firsts : List Op → List Call
 firsts [] = []
 firsts (o ∷ os) = ifFirst (o .first) (o .call) (firsts os)
-
-abbrev pub callsOf : List CutCall → List Call
-callsOf ks = map (λ (k : CutCall). k .call) ks
 
 abbrev pub FirstsAre : Type 0
 FirstsAre = (ks : List CutCall) → All HasRow ks → firsts (opsOf ks) ≡ callsOf ks

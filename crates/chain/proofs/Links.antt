@@ -7,7 +7,8 @@ use native.Mathlib.Omega.{arith}
 use borrow.Author.Tests.{eq-eqb, ne-eqb}
 use lib.Dec.{eqb}
 use lib.ListN.{length}
-use Rattle.copy_row.specs.Columns.{at, TIMESTAMP, SRC, SRC-INCR, DST, DST-INCR, COUNT, COUNT-DECR, FIRST, END, IS-SET, IS-WRITE, MU, COLUMNS}
+use Rattle.lists.specs.Lists.{at}
+use Rattle.copy_row.specs.Columns.{TIMESTAMP, SRC, SRC-INCR, DST, DST-INCR, COUNT, COUNT-DECR, FIRST, END, IS-SET, IS-WRITE, MU, COLUMNS}
 use Rattle.copy_meaning.specs.ReadRow.{wordsAt, halvesAt}
 use Rattle.plain_row.specs.Tests.{Fits}
 use Rattle.chain.specs.Link.{closed, unended, dead, same, shown, handedOn, linked, before}

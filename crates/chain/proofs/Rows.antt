@@ -11,8 +11,8 @@ use Rattle.copy_row.specs.Columns.{COLUMNS}
 use Rattle.copy_residues.specs.RowCheck.{rowFault}
 use Rattle.copy_residues.specs.declared.RowFault.the-variants.{Fine, NotElement, OutOfRange, NotZero}
 use Rattle.chain.specs.Link.{Before, closed, unended, dead, linked, before}
-use Rattle.chain.specs.Standing.{standing, isUnended}
 use Rattle.chain.specs.Chain.{rowsFrom, onFault, onEnd, chainFrom}
+use Rattle.chain.specs.Standing.{standing, isUnended}
 use Rattle.chain.specs.declared.ChainAnswer.{ChainAnswer}
 use Rattle.chain.specs.declared.ChainAnswer.the-variants.{Passed, BadElement, BadRange, BadResidue, LinkBroken, NotEnded}
 use Rattle.chain.proofs.Links.{standing-row}

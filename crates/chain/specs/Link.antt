@@ -5,7 +5,8 @@ use Prim.Native.Nat.{ℕ}
 use mathlib.Core.Bool.{Bool, true, false, cond, _&&_}
 use mathlib.Core.List.{List, [], _∷_}
 use lib.Dec.{eqb}
-use Rattle.copy_row.specs.Columns.{at, TIMESTAMP, SRC, SRC-INCR, DST, DST-INCR, COUNT, COUNT-DECR, FIRST, END, IS-SET, IS-WRITE, MU}
+use Rattle.lists.specs.Lists.{at}
+use Rattle.copy_row.specs.Columns.{TIMESTAMP, SRC, SRC-INCR, DST, DST-INCR, COUNT, COUNT-DECR, FIRST, END, IS-SET, IS-WRITE, MU}
 use Rattle.copy_meaning.specs.ReadRow.{wordsAt, halvesAt}
 
 -- what stands before a row: nothing or END; a live row without END; a dead row

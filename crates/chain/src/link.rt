@@ -5,7 +5,7 @@ ghost use mathlib.Core.Path.{_≡_};
 ghost use Prim.Native.Nat.{_+_, _<_};
 ghost use lib.Dec.{eqb};
 ghost use lib.ListN.{length};
-ghost use Rattle.copy_row.specs.Columns.{TIMESTAMP, FIRST, COLUMNS};
+ghost use Rattle.copy_row.specs.Columns.{TIMESTAMP, COLUMNS};
 ghost use Rattle.copy_meaning.specs.ReadRow.{TwoWords, FourHalves, wordsAt, halvesAt};
 ghost use Rattle.plain_row.specs.Tests.{Fits};
 ghost use Rattle.chain.specs.Link.{closed, linked, same, shown, handedOn};

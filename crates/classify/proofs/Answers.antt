@@ -3,10 +3,10 @@ use mathlib.Core.Path.{_≡_, refl, ap}
 use native.Mathlib.Omega.{arith}
 use Rattle.answer.proofs.Parts.{number-same, value-same}
 use Rattle.classify.specs.Classify.{routeNumber, classifyNumbers}
-use Rattle.classify.specs.declared.MemwRoute.{MemwRoute}
-use Rattle.classify.specs.declared.MemwRoute.the-variants.{Register, Aligned, General}
 use Rattle.classify.specs.declared.ClassifyAnswer.{ClassifyAnswer}
 use Rattle.classify.specs.declared.ClassifyAnswer.the-variants.{Route, BadRecord}
+use Rattle.classify.specs.declared.MemwRoute.{MemwRoute}
+use Rattle.classify.specs.declared.MemwRoute.the-variants.{Register, Aligned, General}
 
 pub routeNumber-injective : (s t : MemwRoute) → routeNumber s ≡ routeNumber t → s ≡ t
 routeNumber-injective Register Register e = refl

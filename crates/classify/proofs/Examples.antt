@@ -1,6 +1,6 @@
 -- The starred examples on routes hold, by computing. Assumes nothing.
 use mathlib.Core.Path.{refl}
-use Rattle.records.specs.Lists.{first}
+use Rattle.lists.specs.Lists.{first}
 use Rattle.classify.specs.Classify.{deltaInRange, isRegisterOp, stampsAgree, isAlignedOp, classify}
 use Rattle.classify.specs.RouteExamples.{RouteExamples}
 

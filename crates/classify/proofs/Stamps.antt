@@ -6,9 +6,8 @@ use mathlib.Core.List.{List}
 use Prim.Native.Nat.{ℕ, _+_, _-_, _<_}
 use native.Mathlib.Omega.{arith}
 use borrow.Author.Tests.{eq-eqb, ne-eqb}
-use Rattle.records.specs.Lists.{first}
-use Rattle.records.proofs.First.{first-miss, first-hit, first-end}
-use Rattle.copy_row.specs.Columns.{at}
+use Rattle.lists.specs.Lists.{first, at}
+use Rattle.lists.proofs.First.{first-miss, first-hit, first-end}
 use Rattle.access.specs.Access.{WIDTH, OLD-TIMESTAMP}
 use Rattle.classify.specs.Classify.{otherStamp, stampsAgree}
 

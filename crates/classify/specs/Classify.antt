@@ -5,15 +5,14 @@ use Prim.Native.Nat.{ℕ, _+_, _-_, _/_, _%_, _^_}
 use mathlib.Core.Bool.{Bool, cond, not, _&&_}
 use mathlib.Core.List.{List}
 use lib.Dec.{eqb, leb}
-use Rattle.answer.specs.declared.Answer.{Answer}
 use Rattle.answer.specs.Numbers.{accepted, refused}
-use Rattle.records.specs.Lists.{first}
-use Rattle.copy_row.specs.Columns.{at}
+use Rattle.answer.specs.declared.Answer.{Answer}
+use Rattle.lists.specs.Lists.{first, at}
 use Rattle.access.specs.Access.{IS-REGISTER, BASE-ADDRESS, TIMESTAMP, WIDTH, OLD-TIMESTAMP, goodAccess}
-use Rattle.classify.specs.declared.MemwRoute.{MemwRoute}
-use Rattle.classify.specs.declared.MemwRoute.the-variants.{Register, Aligned, General}
 use Rattle.classify.specs.declared.ClassifyAnswer.{ClassifyAnswer}
 use Rattle.classify.specs.declared.ClassifyAnswer.the-variants.{Route, BadRecord}
+use Rattle.classify.specs.declared.MemwRoute.{MemwRoute}
+use Rattle.classify.specs.declared.MemwRoute.the-variants.{Register, Aligned, General}
 
 -- the words of a 64-bit number
 abbrev pub lowWord : ℕ → ℕ

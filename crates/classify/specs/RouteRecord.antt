@@ -5,7 +5,7 @@ use Prim.Native.Nat.{ℕ, _+_, _/_, _%_}
 use mathlib.Core.Bool.{Bool, true, _&&_}
 use mathlib.Core.List.{List, [], _∷_}
 use lib.Dec.{eqb, leb}
-use Rattle.copy_row.specs.Columns.{at}
+use Rattle.lists.specs.Lists.{at}
 use Rattle.access.specs.Access.{BASE-ADDRESS, VALUE, TIMESTAMP, IS-READ, OLD, OLD-TIMESTAMP, ACCESS-WIDTH}
 use Rattle.classify.specs.Classify.{lowWord}
 use Rattle.classify.specs.declared.MemwRoute.{MemwRoute}

@@ -9,10 +9,10 @@ use native.Mathlib.Omega.{arith}
 use borrow.Author.Tests.{not-false, eqb-true, eq-eqb, leb-true, leb-false, lt-leb, le-ltb, ltb-false}
 use lib.Dec.{ltb, leb, eqb}
 use lib.ListN.{length, getD}
+use Rattle.lists.specs.Lists.{first, at}
+use Rattle.lists.proofs.First.{first-none, first-all}
 use Rattle.field.specs.Field.{p}
-use Rattle.records.specs.Lists.{first}
-use Rattle.records.proofs.First.{first-none, first-all}
-use Rattle.copy_row.specs.Columns.{at, COLUMNS}
+use Rattle.copy_row.specs.Columns.{COLUMNS}
 use Rattle.copy_residues.specs.Range.{columnLimits, firstLarge, firstOut}
 use Rattle.copy_residues.specs.Residues.{residue, RESIDUES}
 use Rattle.copy_residues.specs.RowCheck.{firstResidue, rowFault}

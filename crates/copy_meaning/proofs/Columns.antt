@@ -6,15 +6,14 @@ use Prim.Native.Nat.{ℕ, zero, suc, _+_, _-_, _*_, _^_, _<_}
 use native.Mathlib.Omega.{arith}
 use lib.Dec.{lit<}
 use lib.ListN.{length, getD}
+use Rattle.lists.specs.Lists.{at, eightAt, All}
 use Rattle.field.specs.Field.{p, addP, mulP}
 use Rattle.field.proofs.Laws.{mulP-small}
-use Rattle.copy_row.specs.Columns.{at, TIMESTAMP, VALUE, SRC, SRC-INCR, DST, DST-INCR, COUNT, COUNT-DECR, DST-RES, SINGLE, COLUMNS}
-use Rattle.copy_row.specs.Calls.{eightAt}
+use Rattle.copy_row.specs.Columns.{TIMESTAMP, VALUE, SRC, SRC-INCR, DST, DST-INCR, COUNT, COUNT-DECR, DST-RES, SINGLE, COLUMNS}
 use Rattle.copy_residues.specs.Range.{columnLimits}
 use Rattle.copy_residues.specs.Residues.{halvesWord, step}
-use Rattle.copy_meaning.specs.Steps.{All}
-use Rattle.copy_meaning.specs.RowIff.{InRange}
 use Rattle.copy_meaning.specs.ReadRow.{TwoWords, FourHalves, wordsAt, halvesAt}
+use Rattle.copy_meaning.specs.RowIff.{InRange}
 
 -- a list is its numbers one by one, and a row its 41 columns
 abbrev pub upTo : ℕ → (ℕ → ℕ) → List ℕ

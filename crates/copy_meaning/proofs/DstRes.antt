@@ -11,20 +11,21 @@ use borrow.Author.Tests.{eqb-true, eqb-false}
 use lib.Dec.{lit<, lit≤, eqb}
 use lib.ListN.{length, getD, set, length-set}
 use lib.Seq.{getD-set-same, getD-set-other}
+use Rattle.lists.specs.Lists.{at}
 use Rattle.field.specs.Field.{addP, subP, bitP}
 use Rattle.field.specs.Carries.{carryLow}
 use Rattle.field.proofs.Laws.{add-below, sub-below, bit-below, bit-zero, sub-zero, sub-same, addP-small, subP-zero}
 use Rattle.field.proofs.Bits.{bit-of-zero, gate, gate-zero}
 use Rattle.field.proofs.Carry.{carry-below, carry-of-bit, carry-value}
-use Rattle.copy_row.specs.Columns.{at, TIMESTAMP, VALUE, SRC, DST, COUNT, DST-RES, FIRST, END, SINGLE, IS-SET, IS-WRITE, MU, COLUMNS}
+use Rattle.copy_row.specs.Columns.{TIMESTAMP, VALUE, SRC, DST, COUNT, DST-RES, FIRST, END, SINGLE, IS-SET, IS-WRITE, MU, COLUMNS}
 use Rattle.copy_row.specs.Rows.{rowOf, tableRow}
 use Rattle.copy_residues.specs.Range.{columnLimits}
 use Rattle.copy_residues.specs.Residues.{halvesWord, resLow, gatedBit, dstResNonWrite, residue, RESIDUES}
 use Rattle.copy_meaning.specs.ReadRow.{opAt}
 use Rattle.copy_meaning.specs.RowIff.{InRange, BesidesDstRes, DependsOnDstRes, CallRowIs, NeverFree, OneFilling}
+use Rattle.copy_meaning.proofs.RowIff.{row-iff}
 use Rattle.copy_meaning.proofs.Check.{range-elements}
 use Rattle.copy_meaning.proofs.Columns.{dst-words, count-words, res-halves, halves-word}
-use Rattle.copy_meaning.proofs.RowIff.{row-iff}
 
 -- ---- the low halves that residues 16 and 18 ask for
 

@@ -8,8 +8,9 @@ use native.Mathlib.Omega.{arith}
 use borrow.Author.Tests.{ltb-true, ltb-false, lt-ltb, le-ltb}
 use lib.Dec.{ltb, lit<}
 use lib.ListN.{getD}
+use Rattle.lists.specs.Lists.{at}
 use Rattle.field.specs.Field.{bitP, subP}
-use Rattle.copy_row.specs.Columns.{at, VALUE, SRC, DST, COUNT, FIRST, END, SINGLE, IS-SET, IS-WRITE, MU}
+use Rattle.copy_row.specs.Columns.{VALUE, SRC, DST, COUNT, FIRST, END, SINGLE, IS-SET, IS-WRITE, MU}
 use Rattle.copy_residues.specs.Residues.{step, incrLow, incrHigh, decrLow, decrHigh, resLow, resHigh, gapLow, gapHigh, impliesMu, oneHot, firstWrite, gatedBit, dstResNonWrite, singleLane, borrowImplies, borrowImpliesZero, endImplies, muComIs, muComWideIs, noWrap, gapNoWrap, front, back, residue, RESIDUES}
 
 pub record Equations (gap : ℕ) (row : List ℕ) : Type 0 where

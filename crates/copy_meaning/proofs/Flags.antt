@@ -6,8 +6,7 @@ use Prim.Native.Nat.{ℕ, zero, suc, _+_, _-_, _*_, _^_, _%_, _≤_, _<_}
 use native.Mathlib.Omega.{arith}
 use borrow.Author.Tests.{eq-eqb, ne-eqb}
 use lib.Dec.{eqb, eqb·suc-zero}
-use Rattle.words.specs.Words.{wrapAdd}
-use Rattle.copy_row.specs.Rows.{bit}
+use Rattle.words.specs.Words.{wrapAdd, bit}
 
 pub bit-below-two : (t : Bool) → bit t < 2
 bit-below-two true = omega arith

@@ -9,13 +9,14 @@ use native.Mathlib.Omega.{arith}
 use lib.Dec.{eqb, lit<}
 use lib.ListN.{length, getD, replicate}
 use lib.Pow.{pow-pos}
+use Rattle.lists.specs.Lists.{eightAt, All}
+use Rattle.lists.proofs.Numbers.{eight-back}
+use Rattle.words.specs.Words.{digits, bit}
 use Rattle.field.specs.Field.{p}
-use Rattle.words.specs.Words.{digits}
-use Rattle.copy_row.specs.Calls.{Op, eightAt}
-use Rattle.copy_row.specs.Rows.{bit, wrapped, dstRes, muCom, rowOf}
-use Rattle.copy_row.proofs.Ops.{eight-back}
+use Rattle.call.specs.Calls.{Op}
+use Rattle.call.specs.Cuts.{PieceOk}
+use Rattle.copy_row.specs.Rows.{wrapped, dstRes, muCom, rowOf}
 use Rattle.copy_residues.specs.Range.{columnLimits}
-use Rattle.copy_meaning.specs.Steps.{All, PieceOk}
 use Rattle.copy_meaning.specs.RowIff.{InRange}
 
 -- each number is below the limit that stands in its place

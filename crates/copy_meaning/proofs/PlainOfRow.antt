@@ -8,18 +8,19 @@ use native.Mathlib.Omega.{arith}
 use lib.Dec.{eqb}
 use lib.ListN.{getD, take, drop, replicate, getD-replicate}
 use lib.Seq.{getD-take, getD-drop}
-use Rattle.words.specs.Words.{wrapAdd, wrapSub}
+use Rattle.lists.specs.Lists.{at}
+use Rattle.lists.proofs.Numbers.{eight-back}
+use Rattle.words.specs.Words.{wrapAdd, wrapSub, bit}
 use Rattle.words.proofs.Wrap.{sub-plain, sub-wrapped}
-use Rattle.copy_row.specs.Columns.{at, VALUE, SRC, DST, COUNT, FIRST, END, SINGLE, IS-SET, IS-WRITE, FIRST-WRITE, MU, MU-COM, MU-COM-WIDE}
-use Rattle.copy_row.specs.Calls.{Op}
-use Rattle.copy_row.specs.Rows.{bit, dstRes, muCom, rowOf}
-use Rattle.copy_row.proofs.Ops.{eight-back}
+use Rattle.call.specs.Calls.{Op}
+use Rattle.copy_row.specs.Columns.{VALUE, SRC, DST, COUNT, FIRST, END, SINGLE, IS-SET, IS-WRITE, FIRST-WRITE, MU, MU-COM, MU-COM-WIDE}
+use Rattle.copy_row.specs.Rows.{dstRes, muCom, rowOf}
 use Rattle.copy_meaning.specs.Steps.{RowStep}
 use Rattle.copy_meaning.specs.ReadRow.{wordsAt}
 use Rattle.copy_meaning.specs.RowIff.{InRange}
-use Rattle.copy_meaning.proofs.Flags.{bit-below-two, first-write-test, res-test, mu-com-test, wide-test}
-use Rattle.copy_meaning.proofs.Plain.{Plain, widthAt, emptyAt}
 use Rattle.copy_meaning.proofs.ReadBack.{src-back, dst-back, count-back, src-incr-back, dst-incr-back, count-decr-back, dst-res-back, kind-read, width-read}
+use Rattle.copy_meaning.proofs.Plain.{Plain, widthAt, emptyAt}
+use Rattle.copy_meaning.proofs.Flags.{bit-below-two, first-write-test, res-test, mu-com-test, wide-test}
 use Rattle.copy_meaning.proofs.StepFacts.{StepFacts, width-bounds, facts-of-step}
 use Rattle.copy_meaning.proofs.MadeRange.{made-range}
 

@@ -6,20 +6,21 @@ use Prim.Native.Nat.{ℕ, zero, suc, _+_, _-_, _*_, _%_, _^_, _≤_, _<_}
 use native.Mathlib.Nat.{mul-comm}
 use native.Mathlib.Omega.{arith}
 use lib.Dec.{lit<}
+use Rattle.lists.specs.Lists.{at}
 use Rattle.field.specs.Field.{p, addP, subP, mulP, bitP}
 use Rattle.field.proofs.Laws.{add-below, sub-below, mul-below, bit-below, sub-zero, subP-small, mulP-comm}
 use Rattle.field.proofs.Bits.{bit-of-zero, gate, not-both, implies, bit-mulP, bit-complement}
-use Rattle.copy_row.specs.Columns.{at, VALUE, SRC, SRC-INCR, DST, DST-INCR, COUNT, COUNT-DECR, DST-RES, FIRST, END, SINGLE, IS-SET, IS-WRITE, FIRST-WRITE, MU, MU-COM, MU-COM-WIDE, COLUMNS}
+use Rattle.copy_row.specs.Columns.{VALUE, SRC, SRC-INCR, DST, DST-INCR, COUNT, COUNT-DECR, DST-RES, FIRST, END, SINGLE, IS-SET, IS-WRITE, FIRST-WRITE, MU, MU-COM, MU-COM-WIDE, COLUMNS}
 use Rattle.copy_residues.specs.Residues.{halvesWord, step, incrHigh, decrHigh, resLow, resHigh, gapLow, gapHigh, borrow, impliesMu, oneHot, firstWrite, gatedBit, dstResNonWrite, singleLane, borrowImplies, borrowImpliesZero, endImplies, muComIs, muComWideIs, noWrap, gapNoWrap}
 use Rattle.copy_residues.proofs.CountBorrow.{borrow-is-carry}
-use Rattle.copy_meaning.specs.RowIff.{InRange}
 use Rattle.copy_meaning.specs.ReadRow.{wordsAt, halvesAt}
+use Rattle.copy_meaning.specs.RowIff.{InRange}
 use Rattle.copy_meaning.proofs.Check.{range-elements}
+use Rattle.copy_meaning.proofs.Plain.{Plain, widthAt, emptyAt}
 use Rattle.copy_meaning.proofs.Equations.{Equations}
 use Rattle.copy_meaning.proofs.Columns.{src-words, dst-words, count-words, src-halves, dst-halves, count-halves, res-halves, words-below, halves-below, words-of, step-width}
 use Rattle.copy_meaning.proofs.Sums.{Sum, incr-sum, decr-sum, res-sum, gap-sum}
 use Rattle.copy_meaning.proofs.Flags.{live-product}
-use Rattle.copy_meaning.proofs.Plain.{Plain, widthAt, emptyAt}
 
 -- ---- on numbers
 

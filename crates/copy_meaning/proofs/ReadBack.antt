@@ -5,13 +5,15 @@ use mathlib.Core.Logic.{_⊎_, inl, inr}
 use Prim.Native.Nat.{ℕ, zero, suc, _+_, _-_, _*_, _^_, _≤_, _<_}
 use native.Mathlib.Omega.{arith}
 use lib.Dec.{eqb}
-use Rattle.words.proofs.Wrap.{from-words}
+use Rattle.lists.specs.Lists.{eightAt}
+use Rattle.lists.proofs.Numbers.{eight-back}
+use Rattle.words.specs.Words.{bit}
 use Rattle.words.proofs.Digits.{halves-whole}
+use Rattle.words.proofs.Wrap.{from-words}
+use Rattle.call.specs.Calls.{Op}
+use Rattle.call.specs.Cuts.{Words, PieceOk}
 use Rattle.copy_row.specs.Columns.{TIMESTAMP, VALUE, SRC, SRC-INCR, DST, DST-INCR, COUNT, COUNT-DECR, DST-RES}
-use Rattle.copy_row.specs.Calls.{Op, eightAt}
-use Rattle.copy_row.specs.Rows.{bit, wrapped, dstRes, rowOf}
-use Rattle.copy_row.proofs.Ops.{eight-back}
-use Rattle.copy_meaning.specs.Steps.{Words, PieceOk}
+use Rattle.copy_row.specs.Rows.{wrapped, dstRes, rowOf}
 use Rattle.copy_meaning.specs.ReadRow.{wordsAt, halvesAt, kindAt, callAt, opAt, nextAt}
 use Rattle.copy_meaning.proofs.Plain.{widthAt}
 

@@ -7,8 +7,9 @@ use Prim.Native.Nat.{ℕ, _^_, _<_}
 use native.Mathlib.Omega.{arith}
 use lib.Dec.{lit<, lit≤}
 use lib.ListN.{length, replicate}
-use Rattle.copy_row.specs.Columns.{at, MU, COLUMNS}
-use Rattle.copy_row.specs.Calls.{Op}
+use Rattle.lists.specs.Lists.{at}
+use Rattle.call.specs.Calls.{Op}
+use Rattle.copy_row.specs.Columns.{MU, COLUMNS}
 use Rattle.copy_row.specs.Rows.{rowOf, tableRow, paddingRow}
 use Rattle.copy_residues.specs.RowCheck.{rowFault}
 use Rattle.copy_residues.specs.declared.RowFault.the-variants.{Fine}
@@ -16,8 +17,8 @@ use Rattle.copy_meaning.specs.Steps.{LiveStep, DeadStep, RowStep}
 use Rattle.copy_meaning.specs.ReadRow.{opAt}
 use Rattle.copy_meaning.specs.RowIff.{RowIff, InRange}
 use Rattle.copy_meaning.proofs.Check.{fine-passing, passing-fine}
-use Rattle.copy_meaning.proofs.Equations.{equations-of, residues-zero}
 use Rattle.copy_meaning.proofs.Plain.{Plain}
+use Rattle.copy_meaning.proofs.Equations.{equations-of, residues-zero}
 use Rattle.copy_meaning.proofs.PlainOfZero.{plain-of-zero}
 use Rattle.copy_meaning.proofs.ZeroOfPlain.{zero-of-plain}
 use Rattle.copy_meaning.proofs.RowOfPlain.{row-same, row-step}

@@ -8,19 +8,20 @@ use Prim.Native.Nat.{ℕ, zero, suc, _+_, _-_, _*_, _%_, _^_, _<_}
 use native.Mathlib.Omega.{arith}
 use lib.Dec.{lit<, eqb}
 use lib.ListN.{length}
-use Rattle.words.specs.Words.{words, halves, wrapSub}
+use Rattle.lists.specs.Lists.{at, eightAt}
+use Rattle.words.specs.Words.{words, halves, wrapSub, bit}
 use Rattle.words.proofs.Limbs.{two-of, four-of}
 use Rattle.words.proofs.Digits.{words-two, halves-four}
-use Rattle.copy_row.specs.Columns.{at, TIMESTAMP, VALUE, SRC, SRC-INCR, DST, DST-INCR, COUNT, COUNT-DECR, DST-RES, FIRST, END, SINGLE, IS-SET, IS-WRITE, MU, MU-COM, MU-COM-WIDE, COLUMNS}
-use Rattle.copy_row.specs.Calls.{eightAt}
-use Rattle.copy_row.specs.Rows.{bit, dstRes, muCom, rowOf}
-use Rattle.copy_meaning.specs.Steps.{Words, PieceOk, RowStep}
+use Rattle.call.specs.Cuts.{Words, PieceOk}
+use Rattle.copy_row.specs.Columns.{TIMESTAMP, VALUE, SRC, SRC-INCR, DST, DST-INCR, COUNT, COUNT-DECR, DST-RES, FIRST, END, SINGLE, IS-SET, IS-WRITE, MU, MU-COM, MU-COM-WIDE, COLUMNS}
+use Rattle.copy_row.specs.Rows.{dstRes, muCom, rowOf}
+use Rattle.copy_meaning.specs.Steps.{RowStep}
 use Rattle.copy_meaning.specs.ReadRow.{TwoWords, FourHalves, wordsAt, halvesAt, callAt, opAt}
 use Rattle.copy_meaning.specs.RowIff.{InRange}
+use Rattle.copy_meaning.proofs.Plain.{Plain, widthAt, emptyAt}
 use Rattle.copy_meaning.proofs.Columns.{columns-of, stamp-words, src-words, dst-words, count-words, src-halves, dst-halves, count-halves, res-halves, value-bytes, words-below, halves-below}
 use Rattle.copy_meaning.proofs.Flags.{single-test, set-test, write-test, first-write-test, res-test, mu-com-test, wide-test}
 use Rattle.copy_meaning.proofs.StepFacts.{StepFacts, step-of-facts}
-use Rattle.copy_meaning.proofs.Plain.{Plain, widthAt, emptyAt}
 
 -- the columns of a number are its words, its halves
 word-columns : (row : List ℕ) (c : ℕ) → TwoWords row c → at row c ∷ at row (c + 1) ∷ [] ≡ words (wordsAt row c)

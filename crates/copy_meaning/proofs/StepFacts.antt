@@ -4,8 +4,9 @@ use mathlib.Core.Path.{_≡_, refl}
 use mathlib.Core.Logic.{_⊎_, inl, inr}
 use Prim.Native.Nat.{ℕ, zero, suc, _+_, _-_, _*_, _^_, _≤_, _<_}
 use native.Mathlib.Omega.{arith}
-use Rattle.copy_row.specs.Calls.{Op}
-use Rattle.copy_meaning.specs.Steps.{Words, PieceOk, Move, empty, ends, more, RowStep}
+use Rattle.call.specs.Calls.{Op}
+use Rattle.call.specs.Cuts.{Words, PieceOk}
+use Rattle.copy_meaning.specs.Steps.{Move, empty, ends, more, RowStep}
 
 pub record StepFacts (gap mu : ℕ) (o : Op) : Type 0 where
   pub words : Words (o .call)

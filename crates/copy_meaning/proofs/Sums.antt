@@ -4,10 +4,11 @@ use mathlib.Core.Path.{_≡_, ap}
 use mathlib.Core.List.{List}
 use Prim.Native.Nat.{ℕ, _+_, _-_, _*_, _^_, _<_}
 use native.Mathlib.Omega.{arith}
+use Rattle.lists.specs.Lists.{at}
 use Rattle.field.specs.Field.{bitP}
 use Rattle.field.specs.Carries.{carryLow, carryHigh}
 use Rattle.field.proofs.Carry.{sum-of-zero, zero-of-sum}
-use Rattle.copy_row.specs.Columns.{at, SRC, DST, COUNT, COUNT-DECR, DST-RES, SINGLE}
+use Rattle.copy_row.specs.Columns.{SRC, DST, COUNT, COUNT-DECR, DST-RES, SINGLE}
 use Rattle.copy_residues.specs.Residues.{halvesWord, step, incrLow, incrHigh, decrLow, decrHigh, resLow, resHigh, gapLow, gapHigh}
 use Rattle.copy_meaning.specs.ReadRow.{TwoWords, FourHalves, wordsAt, halvesAt}
 use Rattle.copy_meaning.proofs.Columns.{words-of, step-width}

@@ -6,20 +6,21 @@ use Prim.Native.Nat.{ℕ, zero, suc, _+_, _-_, _*_, _/_, _%_, _^_, _≤_, _<_}
 use native.Mathlib.Nat.{mul-comm, mul-one}
 use native.Mathlib.Omega.{arith}
 use lib.Dec.{lit<}
+use Rattle.lists.specs.Lists.{at}
 use Rattle.field.specs.Field.{p, addP, subP, mulP, bitP}
 use Rattle.field.proofs.Laws.{mul-below, bit-zero, sub-same, subP-small, mulP-comm}
 use Rattle.field.proofs.Bits.{gate-zero, not-both-zero, implies-zero, bit-mulP, bit-complement}
-use Rattle.copy_row.specs.Columns.{at, SRC, SRC-INCR, DST, DST-INCR, COUNT, COUNT-DECR, DST-RES, FIRST, END, SINGLE, IS-SET, IS-WRITE, FIRST-WRITE, MU, MU-COM, MU-COM-WIDE, COLUMNS}
+use Rattle.copy_row.specs.Columns.{SRC, SRC-INCR, DST, DST-INCR, COUNT, COUNT-DECR, DST-RES, FIRST, END, SINGLE, IS-SET, IS-WRITE, FIRST-WRITE, MU, MU-COM, MU-COM-WIDE, COLUMNS}
 use Rattle.copy_residues.specs.Residues.{halvesWord, step, incrLow, incrHigh, decrLow, decrHigh, resLow, resHigh, gapLow, gapHigh, borrow, impliesMu, oneHot, firstWrite, gatedBit, dstResNonWrite, singleLane, borrowImplies, borrowImpliesZero, endImplies, muComIs, muComWideIs, noWrap, gapNoWrap}
 use Rattle.copy_residues.proofs.CountBorrow.{borrow-is-carry}
-use Rattle.copy_meaning.specs.RowIff.{InRange}
 use Rattle.copy_meaning.specs.ReadRow.{wordsAt, halvesAt}
+use Rattle.copy_meaning.specs.RowIff.{InRange}
 use Rattle.copy_meaning.proofs.Check.{range-elements}
+use Rattle.copy_meaning.proofs.Plain.{Plain, widthAt, emptyAt}
 use Rattle.copy_meaning.proofs.Equations.{Equations}
 use Rattle.copy_meaning.proofs.Columns.{src-words, dst-words, count-words, src-halves, dst-halves, count-halves, res-halves, words-below, words-of, step-width}
 use Rattle.copy_meaning.proofs.Sums.{Sum, Carried, incr-carried, decr-carried, res-carried, gap-carried}
 use Rattle.copy_meaning.proofs.Flags.{live-product}
-use Rattle.copy_meaning.proofs.Plain.{Plain, widthAt, emptyAt}
 
 -- ---- on numbers
 

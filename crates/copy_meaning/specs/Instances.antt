@@ -5,8 +5,8 @@ use mathlib.Core.List.{_∷_}
 use Prim.Native.Nat.{ℕ, _-_, _^_}
 use lib.ListN.{set, replicate}
 use Rattle.field.specs.Field.{p}
+use Rattle.call.specs.Calls.{Op}
 use Rattle.copy_row.specs.Columns.{SRC-INCR, MU}
-use Rattle.copy_row.specs.Calls.{Op}
 use Rattle.copy_row.specs.Rows.{rowOf, tableRow, paddingRow}
 use Rattle.copy_residues.specs.RowCheck.{rowFault}
 use Rattle.copy_residues.specs.declared.RowFault.{RowFault}

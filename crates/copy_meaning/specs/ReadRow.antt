@@ -1,8 +1,9 @@
 -- The numbers and the operation record that are read off a copy row, and the call that the row after it must go on with. Assumes nothing.
 use Prim.Native.Nat.{ℕ, _+_, _-_, _*_, _^_, _<_}
 use mathlib.Core.List.{List}
-use Rattle.copy_row.specs.Columns.{at, TIMESTAMP, VALUE, SRC, SRC-INCR, DST, DST-INCR, COUNT, COUNT-DECR, FIRST, END, SINGLE, IS-SET, IS-WRITE}
-use Rattle.copy_row.specs.Calls.{Call, Op, eightAt}
+use Rattle.lists.specs.Lists.{at, eightAt}
+use Rattle.call.specs.Calls.{Call, Op}
+use Rattle.copy_row.specs.Columns.{TIMESTAMP, VALUE, SRC, SRC-INCR, DST, DST-INCR, COUNT, COUNT-DECR, FIRST, END, SINGLE, IS-SET, IS-WRITE}
 
 -- two words, four halves from column c on
 pub record TwoWords (row : List ℕ) (c : ℕ) : Type 0 where

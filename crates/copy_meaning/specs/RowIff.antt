@@ -5,8 +5,9 @@ use mathlib.Core.Logic.{_⊎_, _↔_}
 use mathlib.Core.List.{List}
 use Prim.Native.Nat.{ℕ, _^_, _<_, _≤_}
 use lib.ListN.{length, getD}
-use Rattle.copy_row.specs.Columns.{at, DST-RES, FIRST, MU, COLUMNS}
-use Rattle.copy_row.specs.Calls.{Op}
+use Rattle.lists.specs.Lists.{at}
+use Rattle.call.specs.Calls.{Op}
+use Rattle.copy_row.specs.Columns.{DST-RES, FIRST, MU, COLUMNS}
 use Rattle.copy_row.specs.Rows.{rowOf, tableRow}
 use Rattle.copy_residues.specs.Range.{columnLimits}
 use Rattle.copy_residues.specs.Residues.{residue, RESIDUES}

@@ -1,31 +1,9 @@
 -- What a row that passes says of its operation record, in plain numbers: no field, no residue. Document 01's words on sound calls, seen
 -- from one row. Assumes nothing.
 use mathlib.Core.Path.{_≡_}
-use mathlib.Core.Logic.{_⊎_}
-use mathlib.Core.List.{List, [], _∷_}
 use Prim.Native.Nat.{ℕ, zero, suc, _+_, _^_, _≤_, _<_}
-use lib.ListN.{length, drop, replicate}
-use Rattle.copy_row.specs.Calls.{Call, Piece, Op}
-
--- P of every element
-abbrev pub All {ℓ} : {A : Type ℓ} → (A → Type 0) → List A → Type 0
-All P [] = Unit {0}
-All P (x ∷ xs) = P x × All P xs
-
--- the numbers of a call fit their types
-pub record Words (c : Call) : Type 0 where
-  pub kind : c .kind ≤ 2
-  pub stamp : c .stamp < 2 ^ 64
-  pub src : c .src < 2 ^ 64
-  pub dst : c .dst < 2 ^ 64
-  pub count : c .count < 2 ^ 64
-
--- width 1 or 8 and eight bytes, "width 1 with seven zero tail bytes"
-pub record PieceOk (piece : Piece) : Type 0 where
-  pub wide : (piece .width ≡ 1) ⊎ (piece .width ≡ 8)
-  pub eight : length (piece .value) ≡ 8
-  pub bytes : All (λ (b : ℕ). b < 256) (piece .value)
-  pub tail : piece .width ≡ 1 → drop 1 (piece .value) ≡ replicate 7 0
+use Rattle.call.specs.Calls.{Op}
+use Rattle.call.specs.Cuts.{Words, PieceOk}
 
 -- the three ways in which a live row moves: an empty call's one row; a last row, which moves all that is left; a row with more to come
 pub data Move (o : Op) : Type 0 where

@@ -1,11 +1,12 @@
 -- What is proved of one copy row: the theorems of this crate, collected. `RowIff` is the per-row half of demand 3. Assumes nothing.
 use mathlib.Core.Path.{_≡_}
 use Prim.Native.Nat.{ℕ, _^_, _<_}
-use Rattle.copy_row.specs.Calls.{Op}
+use Rattle.call.specs.Calls.{Op}
+use Rattle.call.specs.Cuts.{Words, PieceOk}
 use Rattle.copy_row.specs.Rows.{wrapped, rowOf, tableRow, paddingRow}
 use Rattle.copy_residues.specs.RowCheck.{rowFault}
 use Rattle.copy_residues.specs.declared.RowFault.the-variants.{Fine}
-use Rattle.copy_meaning.specs.Steps.{Words, PieceOk, LiveStep}
+use Rattle.copy_meaning.specs.Steps.{LiveStep}
 use Rattle.copy_meaning.specs.ReadRow.{opAt, nextAt}
 use Rattle.copy_meaning.specs.RowIff.{RowIff, CallRowIs, NeverFree, OneFilling}
 use Rattle.copy_meaning.specs.Instances.{Instances}

@@ -6,24 +6,23 @@ use mathlib.Core.List.{List, [], _∷_}
 use Prim.Native.Nat.{ℕ, _+_, _<_}
 use native.Mathlib.Omega.{arith}
 use lib.IntN.{pos}
+use Rattle.lists.specs.Lists.{at}
 use Rattle.field.specs.Field.{p, bitP, mulP, subP}
 use Rattle.field.specs.Carries.{carryLow, carryHigh}
 use Rattle.field.proofs.Laws.{zero-addP}
-use Rattle.copy_row.specs.Columns.{at, SRC, SRC-INCR, DST, DST-INCR, COUNT, COUNT-DECR, DST-RES, IS-SET, IS-WRITE, MU}
+use Rattle.copy_row.specs.Columns.{SRC, SRC-INCR, DST, DST-INCR, COUNT, COUNT-DECR, DST-RES, IS-SET, IS-WRITE, MU}
+use Rattle.copy_residues.specs.Residues.{halvesWord, incrLow, incrHigh, decrLow, decrHigh, resLow, resHigh, gapLow, gapHigh, borrow, residue, gatedBit, noWrap, gapNoWrap}
 use Rattle.copy_residues.specs.Cells.{Elements}
-use Rattle.copy_residues.specs.Residues.{halvesWord, incrLow, incrHigh, decrLow, decrHigh, resLow, resHigh, gapLow, gapHigh, borrow}
-use Rattle.copy_residues.specs.Residues.{residue, gatedBit, noWrap, gapNoWrap}
 use Rattle.copy_residues.proofs.CountBorrow.{carried}
-use Rattle.operands.specs.Operands.{lowValue, highValue, sumP}
-use Rattle.operands.specs.Operands.{every, termInRow, sumInRow, kindInRow, operandsInRow, conditionsInRow}
-use Rattle.operands.specs.Pairs.{carryLo, carryHi, gated, residueLo, residueHi}
+use Rattle.operands.specs.Operands.{lowValue, highValue, sumP, every, termInRow, sumInRow, kindInRow, operandsInRow, conditionsInRow}
 use Rattle.operands.specs.Constructors.{cells, dword, linear, constant, fromDwordHl}
+use Rattle.operands.specs.Pairs.{carryLo, carryHi, gated, residueLo, residueHi}
 use Rattle.operands.specs.declared.AddOperand.{AddOperand}
-use Rattle.operands.specs.declared.PairAnswer.the-variants.{Residues}
 use Rattle.operands.specs.declared.CarryAnswer.the-variants.{Carry}
+use Rattle.operands.specs.declared.PairAnswer.the-variants.{Residues}
 use Rattle.operands.proofs.Pairs.{carry-lo, carry-hi}
-use Rattle.operands.proofs.Constructors.{dword-low, dword-high, constant-low, constant-high}
 use Rattle.operands.proofs.Answers.{pair-accepted, carry-accepted}
+use Rattle.operands.proofs.Constructors.{dword-low, dword-high, constant-low, constant-high}
 use Rattle.copy_operands.specs.CopyOperands.{Statement, Emitted, Gated, stepOperand}
 use Rattle.copy_operands.proofs.Values.{step-low, step-high, word-low, word-high}
 

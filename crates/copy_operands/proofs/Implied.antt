@@ -2,9 +2,10 @@
 use Prim.Native.Nat.{ℕ, _+_, _<_}
 use native.Mathlib.Omega.{arith}
 use lib.Dec.{lit<}
+use Rattle.lists.specs.Lists.{at}
 use Rattle.field.specs.Field.{p}
 use Rattle.field.proofs.Bits.{bit-of-zero, gate-zero}
-use Rattle.copy_row.specs.Columns.{at, COUNT, COUNT-DECR, SINGLE, COLUMNS}
+use Rattle.copy_row.specs.Columns.{COUNT, COUNT-DECR, SINGLE, COLUMNS}
 use Rattle.copy_residues.specs.Residues.{residue, decrHigh, borrowImpliesZero}
 use Rattle.copy_residues.proofs.CountBorrow.{borrow-is-carry}
 use Rattle.copy_meaning.proofs.Check.{range-elements}

@@ -5,8 +5,9 @@ use Prim.Native.Nat.{ℕ, _+_}
 use native.Mathlib.Omega.{arith}
 use lib.IntN.{pos, negsuc}
 use lib.Dec.{lit<}
+use Rattle.lists.specs.Lists.{at}
 use Rattle.field.specs.Field.{addP, mulP}
-use Rattle.copy_row.specs.Columns.{at, SINGLE}
+use Rattle.copy_row.specs.Columns.{SINGLE}
 use Rattle.copy_residues.specs.Residues.{halvesWord, step}
 use Rattle.copy_residues.specs.Cells.{Elements}
 use Rattle.operands.specs.Operands.{signedP, termValue, lowValue, highValue}

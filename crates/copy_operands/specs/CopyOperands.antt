@@ -5,16 +5,17 @@ use mathlib.Core.Path.{_≡_}
 use Prim.Native.Nat.{ℕ, _+_, _^_, _<_}
 use mathlib.Core.List.{List, [], _∷_}
 use lib.IntN.{pos, negsuc}
+use Rattle.lists.specs.Lists.{at}
 use Rattle.field.specs.Field.{subP, mulP}
-use Rattle.copy_row.specs.Columns.{at, SRC, SRC-INCR, DST, DST-INCR, COUNT, COUNT-DECR, DST-RES, SINGLE, IS-SET, IS-WRITE, MU}
+use Rattle.copy_row.specs.Columns.{SRC, SRC-INCR, DST, DST-INCR, COUNT, COUNT-DECR, DST-RES, SINGLE, IS-SET, IS-WRITE, MU}
 use Rattle.copy_residues.specs.Residues.{residue, borrow}
 use Rattle.copy_residues.specs.Cells.{Elements}
 use Rattle.operands.specs.Constructors.{dword, linear, constant, fromDwordHl}
 use Rattle.operands.specs.Answers.{pairAnswer, carryAnswer}
 use Rattle.operands.specs.declared.AddLinearTerm.the-variants.{Constant, Column}
 use Rattle.operands.specs.declared.AddOperand.{AddOperand}
-use Rattle.operands.specs.declared.PairAnswer.the-variants.{Residues}
 use Rattle.operands.specs.declared.CarryAnswer.the-variants.{Carry}
+use Rattle.operands.specs.declared.PairAnswer.the-variants.{Residues}
 
 -- the row's width, 8 - 7 SINGLE; `negsuc 6` is -7
 unfoldable pub stepOperand : AddOperand

@@ -5,13 +5,14 @@ use mathlib.Core.List.{List}
 use Prim.Native.Nat.{ℕ, _+_, _-_, _%_, _<_}
 use native.Mathlib.Nat.{mod-add-mod, add-mod-mod}
 use native.Mathlib.Omega.{arith}
+use Rattle.lists.specs.Lists.{at}
 use Rattle.field.specs.Field.{p, addP, subP, mulP}
 use Rattle.field.specs.Constants.{inv16, inv32, inv48, inv64, negSevenInv64, eightInv64}
 use Rattle.field.specs.Carries.{carryP, carryLow, carryHigh}
 use Rattle.field.proofs.Laws.{mulP-assoc, mulP-comm, addP-mulP, zero-mulP, neg-mulP}
-use Rattle.copy_row.specs.Columns.{at, COUNT, COUNT-DECR, SINGLE}
-use Rattle.copy_residues.specs.Cells.{Elements}
+use Rattle.copy_row.specs.Columns.{COUNT, COUNT-DECR, SINGLE}
 use Rattle.copy_residues.specs.Residues.{halvesWord, step, decrLow, decrHigh, borrow}
+use Rattle.copy_residues.specs.Cells.{Elements}
 
 -- c times a product with a constant k, where c k is r
 combine : (c x k r : ℕ) → mulP c k ≡ r → mulP c (mulP x k) ≡ mulP r x

@@ -9,11 +9,12 @@ use native.Mathlib.Omega.{arith}
 use borrow.Author.Tests.{leb-false}
 use lib.Dec.{leb}
 use lib.ListN.{length, getD, List·getD-eq-default}
+use Rattle.lists.specs.Lists.{at}
+use Rattle.lists.proofs.First.{first-none}
 use Rattle.field.specs.Field.{p}
-use Rattle.records.proofs.First.{first-none}
-use Rattle.copy_row.specs.Columns.{at, COLUMNS}
-use Rattle.copy_residues.specs.Cells.{Elements}
+use Rattle.copy_row.specs.Columns.{COLUMNS}
 use Rattle.copy_residues.specs.Range.{columnLimits, firstLarge}
+use Rattle.copy_residues.specs.Cells.{Elements}
 
 -- the two tests
 abbrev pub large : List ℕ → ℕ → Bool

@@ -4,8 +4,9 @@ use mathlib.Core.Path.{_≡_}
 use mathlib.Core.List.{List}
 use Prim.Native.Nat.{ℕ, _<_}
 use lib.ListN.{length}
+use Rattle.lists.specs.Lists.{at}
 use Rattle.field.specs.Field.{p}
-use Rattle.copy_row.specs.Columns.{at, SRC, DST, COLUMNS}
+use Rattle.copy_row.specs.Columns.{SRC, DST, COLUMNS}
 use Rattle.copy_residues.specs.Residues.{step, borrow, decrLow, incrLow, incrHigh}
 use Rattle.copy_residues.specs.declared.parts.Parts.{Parts}
 

@@ -4,9 +4,9 @@ use Prim.Native.Nat.{ℕ, _^_}
 use mathlib.Core.List.{List, _++_}
 use lib.Dec.{leb}
 use lib.ListN.{length, getD, replicate}
+use Rattle.lists.specs.Lists.{first, at}
 use Rattle.field.specs.Field.{p}
-use Rattle.records.specs.Lists.{first}
-use Rattle.copy_row.specs.Columns.{at, COLUMNS}
+use Rattle.copy_row.specs.Columns.{COLUMNS}
 
 -- for each column the least number that is out of range: words, bytes, words and halves in the order of the columns, then nine
 -- columns that may be any element

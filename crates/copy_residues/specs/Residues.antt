@@ -5,10 +5,11 @@ use mathlib.Core.Bool.{cond}
 use mathlib.Core.List.{List, [], _∷_}
 use lib.Dec.{ltb}
 use lib.ListN.{getD}
+use Rattle.lists.specs.Lists.{at}
 use Rattle.field.specs.Field.{p, addP, subP, mulP, bitP}
-use Rattle.field.specs.Carries.{carryLow, carryHigh}
 use Rattle.field.specs.Constants.{inv16, inv32, inv48, inv64, negInv32, negInv64, negSevenInv64, eightInv64}
-use Rattle.copy_row.specs.Columns.{at, SRC, DST, COUNT, COUNT-DECR, DST-RES, FIRST, END, SINGLE, IS-SET, IS-WRITE, FIRST-WRITE, MU, MU-COM, MU-COM-WIDE}
+use Rattle.field.specs.Carries.{carryLow, carryHigh}
+use Rattle.copy_row.specs.Columns.{SRC, DST, COUNT, COUNT-DECR, DST-RES, FIRST, END, SINGLE, IS-SET, IS-WRITE, FIRST-WRITE, MU, MU-COM, MU-COM-WIDE}
 
 -- ---- parts that residues share
 

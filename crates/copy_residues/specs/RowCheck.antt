@@ -4,7 +4,7 @@ use mathlib.Core.Bool.{cond, not}
 use mathlib.Core.List.{List}
 use lib.Dec.{ltb, eqb}
 use lib.ListN.{length}
-use Rattle.records.specs.Lists.{first}
+use Rattle.lists.specs.Lists.{first}
 use Rattle.copy_row.specs.Columns.{COLUMNS}
 use Rattle.copy_residues.specs.Range.{firstLarge, firstOut}
 use Rattle.copy_residues.specs.Residues.{residue, RESIDUES}

@@ -1,6 +1,7 @@
 // Internal to the crate: one number of a copy row. Assumes nothing.
 ghost use Prim.Native.Nat.{_<_};
-ghost use Rattle.copy_row.specs.Columns.{at, COLUMNS};
+ghost use Rattle.lists.specs.Lists.{at};
+ghost use Rattle.copy_row.specs.Columns.{COLUMNS};
 ghost use Rattle.copy_residues.specs.Cells.{Elements, Is};
 
 // Column c.

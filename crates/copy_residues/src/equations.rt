@@ -7,10 +7,11 @@ use copy_row::cols;
 use field::element;
 ghost use mathlib.Core.Path.{_≡_};
 ghost use Prim.Native.Nat.{_+_, _<_};
+ghost use Rattle.lists.specs.Lists.{at};
 ghost use Rattle.field.specs.Field.{p, subP, bitP};
-ghost use Rattle.copy_row.specs.Columns.{at, COUNT, IS-SET, IS-WRITE, COLUMNS};
-ghost use Rattle.copy_residues.specs.Cells.{Elements, Is};
+ghost use Rattle.copy_row.specs.Columns.{COUNT, IS-SET, IS-WRITE, COLUMNS};
 ghost use Rattle.copy_residues.specs.Residues.{step, resLow, resHigh, gapLow, gapHigh, borrow, incrHigh, impliesMu, oneHot, firstWrite, gatedBit, dstResNonWrite, singleLane, borrowImplies, borrowImpliesZero, endImplies, muComIs, muComWideIs, noWrap, gapNoWrap};
+ghost use Rattle.copy_residues.specs.Cells.{Elements, Is};
 
 // range_first, range_end, range_single, range_mu, range_is_set, range_is_write: column c is a bit. Without it a flag could be any element
 // and weigh an access by it.

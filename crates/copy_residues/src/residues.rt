@@ -5,8 +5,8 @@ use copy_row::cols;
 use field::element;
 ghost use mathlib.Core.Path.{_≡_};
 ghost use Prim.Native.Nat.{_<_};
-ghost use Rattle.copy_residues.specs.Cells.{Elements, PartsOf};
 ghost use Rattle.copy_residues.specs.Residues.{residue, RESIDUES};
+ghost use Rattle.copy_residues.specs.Cells.{Elements, PartsOf};
 
 pub const NUM_RESIDUES: u64 = 40;
 

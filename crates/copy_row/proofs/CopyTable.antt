@@ -7,19 +7,19 @@ use Prim.Native.Nat.{ℕ, zero, suc, _+_, _-_, _*_, _≤_, _<_}
 use native.Mathlib.Omega.{arith}
 use lib.Dec.{lit≤}
 use lib.ListN.{length, take, drop}
+use Rattle.lists.proofs.Store.{store-none}
+use Rattle.lists.proofs.Flat.{flat-none}
 use Rattle.records.specs.Records.{recordCount, recordAt, firstBad}
 use Rattle.records.specs.Table.{rowAt, tableAfter}
 use Rattle.records.specs.declared.TableAnswer.{TableAnswer}
 use Rattle.records.specs.declared.TableAnswer.the-variants.{Made}
-use Rattle.records.proofs.Store.{store-none}
-use Rattle.records.proofs.Flat.{flat-none}
 use Rattle.records.proofs.Records.{all-good, record-whole}
 use Rattle.records.proofs.Table as tables
+use Rattle.call.specs.Ops.{opOf, OP-WIDTH, goodOp}
+use Rattle.call.proofs.Ops.{good-whole}
 use Rattle.copy_row.specs.Columns.{COLUMNS}
-use Rattle.copy_row.specs.Calls.{opOf}
 use Rattle.copy_row.specs.Rows.{tableRow, paddingRow}
-use Rattle.copy_row.specs.Trace.{OP-WIDTH, goodOp, copyRow, copyAnswer, copyAfter}
-use Rattle.copy_row.proofs.Ops.{good-whole}
+use Rattle.copy_row.specs.Trace.{copyRow, copyAnswer, copyAfter}
 use Rattle.copy_row.proofs.Rows.{copy-row-wide, padding-wide}
 
 -- row k of the table of ops

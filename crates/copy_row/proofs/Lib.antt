@@ -1,3 +1,2 @@
-pub mod Ops
 pub mod Rows
 pub mod CopyTable

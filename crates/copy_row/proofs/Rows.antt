@@ -3,8 +3,9 @@ use mathlib.Core.Path.{_≡_, refl}
 use mathlib.Core.List.{List}
 use Prim.Native.Nat.{ℕ}
 use lib.ListN.{length}
+use Rattle.call.specs.Calls.{Op}
+use Rattle.call.specs.Ops.{opOf}
 use Rattle.copy_row.specs.Columns.{COLUMNS}
-use Rattle.copy_row.specs.Calls.{Op, opOf}
 use Rattle.copy_row.specs.Rows.{rowOf, paddingRow}
 use Rattle.copy_row.specs.Trace.{copyRow}
 

@@ -1,12 +1,6 @@
 -- The 41 columns of a copy row, by the names of copy.rs. WL columns are two words, HL columns four halves, lowest first; each name is
 -- the number of the first of them. Assumes nothing.
 use Prim.Native.Nat.{ℕ}
-use mathlib.Core.List.{List}
-use lib.ListN.{getD}
-
--- the number of a row or record in column c
-abbrev pub at : List ℕ → ℕ → ℕ
-at row c = getD row c 0
 
 abbrev pub TIMESTAMP : ℕ
 TIMESTAMP = 0

@@ -10,16 +10,6 @@ ghost use Rattle.records.specs.Table.{tableNumbers};
 ghost use Rattle.copy_row.specs.Trace.{copyAnswer, copyAfter};
 use records::TableAnswer;
 
-// Which functionality a row is running: document 01's kind.
-pub enum Functionality {
-    // memcpy and memmove: all reads, then the writes.
-    Copy,
-    // memset: row by row, so the fill propagates.
-    Set,
-    // write: reads only, into the commit domain.
-    Write,
-}
-
 // An operation record: one row's piece of a call, with the call as it remains at this row. The kind is its number.
 pub struct CopyOperation {
     pub timestamp: u64,

@@ -2,13 +2,15 @@
 ghost use mathlib.Core.Path.{_≡_};
 ghost use mathlib.Core.Bool.{cond};
 ghost use lib.ListN.{length};
+ghost use Rattle.words.specs.Words.{bit};
+ghost use Rattle.call.specs.Ops.{opOf, OP-WIDTH};
 ghost use Rattle.copy_row.specs.Columns.{COLUMNS};
-ghost use Rattle.copy_row.specs.Calls.{opOf, operation};
-ghost use Rattle.copy_row.specs.Rows.{bit, dstRes, tableRow, paddingRow};
-ghost use Rattle.copy_row.specs.Trace.{OP-WIDTH, copyRow};
+ghost use Rattle.copy_row.specs.Rows.{operation, dstRes, tableRow, paddingRow};
+ghost use Rattle.copy_row.specs.Trace.{copyRow};
 use crate::CopyOperation;
 use crate::cols;
-use records::lists::put;
+use lists::slices::put;
+use words::bit;
 use words::halves;
 use words::words;
 use words::wrapping_add;
@@ -30,13 +32,6 @@ pub fn operation(op: &[u64]) -> CopyOperation
         kind: op[7],
         value: [op[8], op[9], op[10], op[11], op[12], op[13], op[14], op[15]],
     }
-}
-
-// b as a number.
-pub fn bit(b: bool) -> u64
-    ensures { λ r. ⌜ r ≡ bit b ⌝ }
-{
-    if b { 1 } else { 0 }
 }
 
 // x where b holds, else 0.

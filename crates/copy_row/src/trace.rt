@@ -4,47 +4,19 @@ ghost use mathlib.Core.Path.{_≡_};
 ghost use Prim.Native.Nat.{_*_, _^_, _≤_};
 ghost use lib.ListN.{length};
 ghost use Rattle.records.specs.Records.{recordCount, firstBad};
+ghost use Rattle.call.specs.Ops.{OP-WIDTH, goodOp};
 ghost use Rattle.copy_row.specs.Columns.{COLUMNS};
-ghost use Rattle.copy_row.specs.Trace.{OP-WIDTH, goodOp, copyAnswer, copyAfter};
+ghost use Rattle.copy_row.specs.Trace.{copyAnswer, copyAfter};
 use crate::cols::NUM_COLUMNS;
 use crate::row::write_padding;
 use crate::row::write_row;
+use call::OP_WIDTH;
+use call::good_op;
 use records::TableAnswer;
-use records::lists::record_at;
-use records::lists::record_count;
-use records::lists::table_answer;
-use records::lists::within_limits;
-
-// Numbers in an operation record.
-pub const OP_WIDTH: usize = 16;
-
-// The largest value of each number of an operation record.
-const OP_LIMITS: [u64; 16] = [
-    0xffff_ffff_ffff_ffff,
-    0xffff_ffff_ffff_ffff,
-    0xffff_ffff_ffff_ffff,
-    0xffff_ffff_ffff_ffff,
-    255,
-    1,
-    1,
-    2,
-    255,
-    255,
-    255,
-    255,
-    255,
-    255,
-    255,
-    255,
-];
-
-// Whether an operation record is whole and each field is among its values.
-fn good_op(op: &[u64]) -> bool
-    ensures { λ r. ⌜ r ≡ goodOp (now (op .entry)) ⌝ }
-{
-    let limits = OP_LIMITS;
-    within_limits(op, &limits)
-}
+use records::tables::record_at;
+use records::tables::record_count;
+use records::tables::table_answer;
+use records::tables::within_limits;
 
 // The lowest of the n records that is not good, or n.
 fn first_bad(ops: &[u64], n: usize) -> usize

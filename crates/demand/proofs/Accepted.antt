@@ -7,19 +7,19 @@ use Prim.Native.Nat.{ℕ, _≤_}
 use native.Mathlib.Omega.{arith}
 use borrow.Author.Tests.{eqb-true}
 use lib.Dec.{eqb}
-use Rattle.copy_row.specs.Calls.{opRecord, kindNumber}
-use Rattle.copy_row.specs.declared.Functionality.{Functionality}
-use Rattle.copy_row.specs.declared.Functionality.the-variants.{Copy, Set, Write}
-use Rattle.copy_meaning.specs.Steps.{All, Words}
-use Rattle.calls.specs.Cuts.{CutCall, cutFrom, opsOf, Fits}
-use Rattle.calls.specs.OpChain.{callsOf}
-use Rattle.expansion_rows.proofs.Lengths.{flatMap-append}
+use Rattle.lists.specs.Lists.{All}
+use Rattle.lists.proofs.Joined.{flatMap-append}
+use Rattle.call.specs.Calls.{kindNumber}
+use Rattle.call.specs.Ops.{opRecord}
+use Rattle.call.specs.Flat.{callNumbers}
+use Rattle.call.specs.Cuts.{Words, CutCall, cutFrom, opsOf, Fits, callsOf}
+use Rattle.call.specs.declared.Functionality.{Functionality}
+use Rattle.call.specs.declared.Functionality.the-variants.{Copy, Set, Write}
 use Rattle.expansion.specs.Consequences.{cutCall}
 use Rattle.expansion.proofs.Judged.{accepted-zero}
 use Rattle.expansion.proofs.Cut.{cut, fits}
-use Rattle.demand.proofs.AcceptedCalls.{ops-written}
-use Rattle.read_back.specs.ReadBack.{callNumbers}
 use Rattle.demand.specs.Demand.{Try, Typed, callIn, answered, accepted, opsWritten, acceptedOps, acceptedCalls}
+use Rattle.demand.proofs.AcceptedCalls.{ops-written}
 
 kind-number : (k : Functionality) → kindNumber k ≤ 2
 kind-number Copy = omega arith

@@ -5,10 +5,10 @@ use Prim.Native.Nat.{ℕ, zero, suc, _*_}
 use native.Mathlib.Omega.{arith}
 use lib.ListN.{length, take}
 use lib.Seq.{take-at}
-use Rattle.records.proofs.Store.{store-eq}
-use Rattle.copy_row.specs.Calls.{Call, Op, opRecord}
-use Rattle.copy_row.specs.Trace.{OP-WIDTH}
-use Rattle.copy_meaning.specs.Steps.{All}
+use Rattle.lists.specs.Lists.{All}
+use Rattle.lists.proofs.Store.{store-eq}
+use Rattle.call.specs.Calls.{Call, Op}
+use Rattle.call.specs.Ops.{opRecord, OP-WIDTH}
 use Rattle.expansion_rows.specs.Rows.{rowsOf}
 use Rattle.expansion_rows.proofs.HeldOps.{Eight, row-ops-eight, flat-ops-length}
 use Rattle.expansion.specs.Refusals.{opCount, accessCount, expansionNumbers}

@@ -7,19 +7,19 @@ use mathlib.Core.Logic.{inl, inr}
 use Prim.Native.Nat.{ℕ, _+_, _%_, _^_, _≤_, _<_}
 use native.Mathlib.Omega.{arith}
 use lib.ListN.{length}
+use Rattle.lists.specs.Lists.{eightAt, All}
+use Rattle.lists.proofs.Numbers.{eight-back}
 use Rattle.words.specs.Words.{wrapSub, words}
+use Rattle.call.specs.Calls.{Call, Piece, Op}
+use Rattle.call.specs.Cuts.{PieceOk, CutCall, rest, isLast, cutFrom, opsOf, Fits}
+use Rattle.call.proofs.Cuts.{fits-has-row}
 use Rattle.copy_row.specs.Columns.{VALUE, SRC, SRC-INCR}
-use Rattle.copy_row.specs.Calls.{Call, Piece, Op, eightAt}
 use Rattle.copy_row.specs.Rows.{rowOf, tableRow}
-use Rattle.copy_row.proofs.Ops.{eight-back}
-use Rattle.copy_meaning.specs.Steps.{All, PieceOk}
 use Rattle.copy_meaning.specs.ReadRow.{wordsAt, halvesAt, callAt, opAt}
 use Rattle.copy_meaning.specs.RowIff.{CallRow}
 use Rattle.copy_meaning.proofs.ReadBack.{call-back, src-incr-back}
-use Rattle.chain.specs.Chain.{rowsOf}
-use Rattle.calls.specs.Cuts.{CutCall, rest, isLast, cutFrom, opsOf, Fits}
 use Rattle.calls.specs.OpChain.{group}
-use Rattle.calls.proofs.Cuts.{fits-has-row}
+use Rattle.chain.specs.Chain.{rowsOf}
 use Rattle.demand.specs.Demand.{liveRows, Each, WholeCalls, AnyPiece, AnyCall}
 use Rattle.demand.proofs.MadeRows.{src-modulo, row-marks}
 use Rattle.demand.proofs.Whole.{rows-are}

@@ -7,17 +7,16 @@ use native.Mathlib.Omega.{arith}
 use borrow.Author.Tests.{leb-false}
 use lib.Dec.{leb, lit≤}
 use lib.ListN.{length, take}
-use Rattle.copy_row.specs.Columns.{COLUMNS}
+use Rattle.lists.specs.Lists.{All}
 use Rattle.records.specs.declared.TableAnswer.the-variants.{Made}
-use Rattle.copy_row.specs.Calls.{opRecord}
+use Rattle.call.specs.Ops.{opRecord}
+use Rattle.call.specs.Flat.{callNumbers}
+use Rattle.call.specs.Cuts.{CutCall, opsOf, Fits, callsOf}
+use Rattle.copy_row.specs.Columns.{COLUMNS}
 use Rattle.copy_row.specs.Trace.{copyAnswer, copyAfter}
-use Rattle.copy_meaning.specs.Steps.{All}
 use Rattle.chain.specs.Chain.{chainAnswer}
 use Rattle.chain.specs.declared.ChainAnswer.{ChainAnswer}
 use Rattle.chain.specs.declared.ChainAnswer.the-variants.{Passed, GapTooLarge}
-use Rattle.calls.specs.Cuts.{CutCall, opsOf, Fits}
-use Rattle.calls.specs.OpChain.{callsOf}
-use Rattle.read_back.specs.ReadBack.{callNumbers}
 use Rattle.read_back.proofs.Passed.{Accepted}
 use Rattle.demand.specs.Demand.{Passes, ReadsBack, Try, Typed, accepted, acceptedOps, acceptedCalls, Demand3}
 use Rattle.demand.proofs.Whole.{passes-calls, calls-pass, calls-passes}

@@ -11,18 +11,20 @@ use borrow.Author.Tests.{le-ltb}
 use lib.Dec.{ltb, leb}
 use lib.ListN.{length, take, drop}
 use lib.Seq.{take-at, drop-at, drop-drop}
+use Rattle.lists.specs.Lists.{All}
+use Rattle.lists.proofs.Joined.{flatMap-length}
+use Rattle.words.proofs.Digits.{Below}
 use Rattle.records.specs.Records.{recordCount, recordAt}
 use Rattle.records.specs.RowCount.{rowCount}
 use Rattle.records.specs.Table.{tableAnswer}
 use Rattle.records.specs.declared.TableAnswer.the-variants.{Made, TooManyRecords, BufferShort}
-use Rattle.words.proofs.Digits.{Below}
 use Rattle.records.proofs.Records.{record-count, none-bad}
+use Rattle.call.specs.Calls.{Op}
+use Rattle.call.specs.Ops.{opRecord, OP-WIDTH, goodOp}
+use Rattle.call.proofs.Ops.{op-record-length, OpWithin, within-good}
 use Rattle.copy_row.specs.Columns.{COLUMNS}
-use Rattle.copy_row.specs.Calls.{Op, opRecord}
-use Rattle.copy_row.specs.Trace.{OP-WIDTH, goodOp, copyAnswer}
-use Rattle.copy_row.proofs.Ops.{op-record-length, OpWithin, within-good}
-use Rattle.copy_meaning.specs.Steps.{All, empty, ends, more, LiveStep}
-use Rattle.expansion_rows.proofs.Lengths.{flatMap-length}
+use Rattle.copy_row.specs.Trace.{copyAnswer}
+use Rattle.copy_meaning.specs.Steps.{empty, ends, more, LiveStep}
 
 -- Fields among their values
 

@@ -5,32 +5,33 @@ use mathlib.Core.Logic.{inl, inr}
 use Prim.Native.Nat.{ℕ, zero, suc, _<_}
 use native.Mathlib.Omega.{arith}
 use lib.ListN.{replicate}
+use Rattle.lists.specs.Lists.{store, flat, picked, counted, first, All}
 use Rattle.field.specs.Field.{addP, subP, mulP, bitP}
 use Rattle.field.specs.Carries.{carryP, carryLow, carryHigh}
-use Rattle.records.specs.Lists.{store, flat, picked, counted, first}
 use Rattle.records.specs.Records.{firstAbove, within, firstBad}
 use Rattle.records.specs.RowCount.{doubled, rowCount}
 use Rattle.records.specs.Table.{tableAnswer, rowAt, tableAfter}
-use Rattle.copy_row.specs.Rows.{rowOf, paddingRow}
-use Rattle.copy_row.specs.Trace.{opLimits, copyAnswer, copyAfter}
-use Rattle.copy_residues.specs.Range.{columnLimits, firstLarge, firstOut}
-use Rattle.copy_residues.specs.Residues.{halvesWord, step, incrLow, incrHigh, decrLow, decrHigh, resLow, resHigh, gapLow, gapHigh, borrow, impliesMu, oneHot, firstWrite, gatedBit, dstResNonWrite, singleLane, borrowImplies, borrowImpliesZero, endImplies, muComIs, muComWideIs, noWrap, gapNoWrap, residue}
-use Rattle.copy_residues.specs.RowCheck.{firstResidue, rowFault}
-use Rattle.copy_meaning.specs.Steps.{All, PieceOk}
-use Rattle.copy_meaning.proofs.Check.{fine-passing}
-use Rattle.chain.specs.Link.{same, linked, before}
-use Rattle.chain.specs.Chain.{rowsFrom, chainFrom, chainAnswer}
-use Rattle.calls.specs.Cuts.{Fits}
+use Rattle.call.specs.Ops.{opLimits}
+use Rattle.call.specs.Cuts.{PieceOk, Fits}
+use Rattle.call.specs.Instances.{wide, narrow}
 use Rattle.window.specs.Window.{cellsAt, writeBytes}
 use Rattle.expansion_rows.specs.Rows as call
 use Rattle.expansion_rows.specs.Rows.{copyRowWidth, rowsWithin}
 use Rattle.expansion_rows.specs.Turns.{turnBytes, rowOps}
+use Rattle.expansion_cut.specs.Pieces.{Bytes}
 use Rattle.expansion.specs.Refusals.{refusals, expansionAnswer}
 use Rattle.expansion.specs.Expansion.{callOps, expanded, lentAfter}
-use Rattle.expansion_cut.specs.Pieces.{Bytes}
+use Rattle.copy_row.specs.Rows.{rowOf, paddingRow}
+use Rattle.copy_row.specs.Trace.{copyAnswer, copyAfter}
+use Rattle.copy_residues.specs.Range.{columnLimits, firstLarge, firstOut}
+use Rattle.copy_residues.specs.Residues.{halvesWord, step, incrLow, incrHigh, decrLow, decrHigh, resLow, resHigh, gapLow, gapHigh, borrow, impliesMu, oneHot, firstWrite, gatedBit, dstResNonWrite, singleLane, borrowImplies, borrowImpliesZero, endImplies, muComIs, muComWideIs, noWrap, gapNoWrap, residue}
+use Rattle.copy_residues.specs.RowCheck.{firstResidue, rowFault}
+use Rattle.copy_meaning.proofs.Check.{fine-passing}
+use Rattle.chain.specs.Link.{same, linked, before}
+use Rattle.chain.specs.Chain.{rowsFrom, chainFrom, chainAnswer}
 use Rattle.read_back.specs.ReadBack.{opsCount, callsCount, readOps, readCalls, roomAnswer, readBackAnswer}
 use Rattle.demand.specs.Demand.{DeadRow, WholeCalls, AnyCall, Typed}
-use Rattle.demand.specs.Instances.{wide, narrow, threeKinds, deadRow, rows, unsound, tries, Instances}
+use Rattle.demand.specs.Instances.{threeKinds, deadRow, rows, unsound, tries, Instances}
 use Rattle.demand.proofs.Whole.{whole-calls}
 
 wide-ok : (byte : ℕ) → byte < 256 → PieceOk (wide byte)

@@ -9,24 +9,26 @@ use native.Mathlib.Omega.{arith}
 use lib.Dec.{ltb, leb·suc-suc}
 use lib.ListN.{length, take, replicate, length-append}
 use lib.Seq.{take-at, length-take-le}
+use Rattle.lists.specs.Lists.{All}
+use Rattle.lists.proofs.Flat.{row-within}
 use Rattle.records.specs.Records.{recordCount, recordAt, firstBad}
 use Rattle.records.specs.Table.{rowAt}
 use Rattle.records.specs.declared.TableAnswer.the-variants.{Made}
-use Rattle.records.proofs.Flat.{row-within}
 use Rattle.records.proofs.RowCount.{row-count-covers}
 use Rattle.records.proofs.Table.{MadeFacts}
+use Rattle.call.specs.Calls.{Op}
+use Rattle.call.specs.Ops.{opRecord, OP-WIDTH, goodOp}
+use Rattle.call.specs.Cuts.{CutCall, opsOf, Fits}
+use Rattle.call.proofs.Ops.{op-of-record}
 use Rattle.copy_row.specs.Columns.{COLUMNS}
-use Rattle.copy_row.specs.Calls.{Op, opRecord}
 use Rattle.copy_row.specs.Rows.{tableRow, paddingRow}
-use Rattle.copy_row.specs.Trace.{OP-WIDTH, goodOp, copyRow, copyAnswer, copyAfter}
-use Rattle.copy_row.proofs.Ops.{op-of-record}
+use Rattle.copy_row.specs.Trace.{copyRow, copyAnswer, copyAfter}
 use Rattle.copy_row.proofs.CopyTable.{copyRowAt, made-facts, made-row, after-length, row-of-record, row-of-none}
-use Rattle.copy_meaning.specs.Steps.{All, LiveStep}
-use Rattle.copy_meaning.proofs.Check.{fine-passing}
+use Rattle.copy_meaning.specs.Steps.{LiveStep}
 use Rattle.copy_meaning.proofs.RowIff.{padding-passes}
-use Rattle.chain.specs.Chain.{rowsFrom, rowsOf}
-use Rattle.calls.specs.Cuts.{CutCall, opsOf, Fits}
+use Rattle.copy_meaning.proofs.Check.{fine-passing}
 use Rattle.calls.proofs.Chained.{chain}
+use Rattle.chain.specs.Chain.{rowsFrom, rowsOf}
 use Rattle.demand.specs.Demand.{DeadRow, WholeCalls}
 use Rattle.demand.proofs.RowLists.{listed, listed-same, run-taken, rows-listed}
 use Rattle.demand.proofs.Whole.{steps, whole-calls}

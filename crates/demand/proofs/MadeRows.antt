@@ -3,10 +3,11 @@ use mathlib.Core.Path.{_≡_, refl, _∙_}
 use mathlib.Core.List.{[], _∷_}
 use Prim.Native.Nat.{ℕ, _+_, _*_, _%_, _^_}
 use native.Mathlib.Omega.{arith}
+use Rattle.lists.specs.Lists.{at}
 use Rattle.words.specs.Words.{number}
 use Rattle.words.proofs.Digits.{number-digits}
-use Rattle.copy_row.specs.Columns.{at, SRC, MU}
-use Rattle.copy_row.specs.Calls.{Op}
+use Rattle.call.specs.Calls.{Op}
+use Rattle.copy_row.specs.Columns.{SRC, MU}
 use Rattle.copy_row.specs.Rows.{rowOf}
 use Rattle.copy_meaning.specs.ReadRow.{wordsAt, opAt}
 

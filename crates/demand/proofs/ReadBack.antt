@@ -10,25 +10,26 @@ use native.Mathlib.Omega.{arith}
 use borrow.Author.Tests.{le-leb, lt-leb}
 use lib.Dec.{eqb, leb}
 use lib.ListN.{length}
-use Rattle.records.specs.Lists.{store}
-use Rattle.records.proofs.Flat.{picked-length}
-use Rattle.copy_row.specs.Columns.{at, FIRST, MU}
-use Rattle.copy_row.specs.Calls.{Call, Op, opRecord}
+use Rattle.lists.specs.Lists.{store, at, All}
+use Rattle.lists.proofs.Joined.{flatMap-append}
+use Rattle.lists.proofs.Flat.{picked-length}
+use Rattle.call.specs.Calls.{Call, Op}
+use Rattle.call.specs.Ops.{opRecord, OP-WIDTH}
+use Rattle.call.specs.Flat.{CALL-WIDTH, callNumbers}
+use Rattle.call.specs.Cuts.{CutCall, opsOf, callsOf}
+use Rattle.call.proofs.Cuts.{all-have-rows}
+use Rattle.copy_row.specs.Columns.{FIRST, MU}
 use Rattle.copy_row.specs.Rows.{tableRow}
-use Rattle.copy_row.specs.Trace.{OP-WIDTH}
-use Rattle.copy_meaning.specs.Steps.{All, LiveStep}
+use Rattle.copy_meaning.specs.Steps.{LiveStep}
 use Rattle.copy_meaning.specs.ReadRow.{callAt, opAt}
 use Rattle.copy_meaning.proofs.ReadBack.{call-back, op-back}
+use Rattle.calls.specs.OpChain.{ifFirst, firsts}
+use Rattle.calls.proofs.Chained.{chain}
+use Rattle.calls.proofs.Group.{firsts-are}
 use Rattle.chain.specs.Chain.{chainAnswer, chainNumbers}
 use Rattle.chain.specs.declared.ChainAnswer.{ChainAnswer}
 use Rattle.chain.specs.declared.ChainAnswer.the-variants.{Passed, GapTooLarge, NotRows, BadElement, BadRange, BadResidue, LinkBroken, NotEnded}
-use Rattle.calls.specs.Cuts.{CutCall, opsOf}
-use Rattle.calls.specs.OpChain.{ifFirst, firsts, callsOf}
-use Rattle.calls.proofs.Cuts.{all-have-rows}
-use Rattle.calls.proofs.Chained.{chain}
-use Rattle.calls.proofs.Group.{firsts-are}
-use Rattle.expansion_rows.proofs.Lengths.{flatMap-append}
-use Rattle.read_back.specs.ReadBack.{CALL-WIDTH, callNumbers, rowAt, rowsIn, liveAt, opensAt, opsCount, callsCount, readOps, readCalls, roomAnswer, onChain, readBackAnswer, opsAfter, callsAfter, readBackNumbers}
+use Rattle.read_back.specs.ReadBack.{rowAt, rowsIn, liveAt, opensAt, opsCount, callsCount, readOps, readCalls, roomAnswer, onChain, readBackAnswer, opsAfter, callsAfter, readBackNumbers}
 use Rattle.read_back.specs.declared.ReadBackAnswer.the-variants.{Read, BufferShort}
 use Rattle.demand.specs.Demand.{Passes, WholeCalls, ReadsBack}
 use Rattle.demand.proofs.MadeRows.{row-mu, row-marks}

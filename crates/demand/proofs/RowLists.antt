@@ -6,12 +6,11 @@ use Prim.Native.Nat.{ℕ, zero, suc, _+_, _*_, _/_, _%_, _≤_, _<_}
 use native.Mathlib.Omega.{arith}
 use lib.ListN.{length, take, drop, length-drop}
 use lib.Seq.{drop-drop, take-take, length-take-le}
-use Rattle.records.specs.Lists.{flat, picked}
+use Rattle.lists.specs.Lists.{flat, picked, All}
+pub use Rattle.lists.proofs.Joined.{flatMap-length}
 use Rattle.records.specs.Records.{recordAt}
 use Rattle.copy_row.specs.Columns.{COLUMNS}
-use Rattle.copy_meaning.specs.Steps.{All}
 use Rattle.chain.specs.Chain.{rowsFrom, rowsOf}
-pub use Rattle.expansion_rows.proofs.Lengths.{flatMap-length}
 
 -- the list of g 0, g 1, .. g (n - 1)
 unfoldable pub listed : {A : Type 0} → (ℕ → A) → ℕ → List A

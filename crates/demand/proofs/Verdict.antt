@@ -11,19 +11,21 @@ use native.Mathlib.Omega.{arith}
 use borrow.Author.Tests.{eqb-true, eq-eqb}
 use lib.Dec.{eqb}
 use lib.ListN.{length, getD}
-use Rattle.copy_row.specs.Columns.{at, END, MU, COLUMNS}
-use Rattle.copy_row.specs.Calls.{Call, Op}
-use Rattle.copy_row.specs.Rows.{bit, wrapped, rowOf, tableRow}
+use Rattle.lists.specs.Lists.{at, All}
+use Rattle.words.specs.Words.{bit}
+use Rattle.call.specs.Calls.{Call, Op}
+use Rattle.copy_row.specs.Columns.{END, MU, COLUMNS}
+use Rattle.copy_row.specs.Rows.{wrapped, rowOf, tableRow}
 use Rattle.copy_residues.specs.RowCheck.{rowFault}
 use Rattle.copy_residues.specs.declared.RowFault.the-variants.{Fine}
-use Rattle.copy_meaning.specs.Steps.{All, empty, ends, more, LiveStep, RowStep}
+use Rattle.copy_meaning.specs.Steps.{empty, ends, more, LiveStep, RowStep}
 use Rattle.copy_meaning.specs.ReadRow.{opAt, nextAt}
 use Rattle.copy_meaning.proofs.RowIff.{row-iff, live-passes}
 use Rattle.copy_meaning.proofs.ReadBack.{call-back, next-back}
+use Rattle.calls.specs.OpChain.{unlessEnd, next, Opens, Chain}
 use Rattle.chain.specs.Link.{Before, closed, unended, dead, same, shown, handedOn, liveLinked, deadLinked, linked, before}
 use Rattle.chain.specs.Chain.{chainFrom}
 use Rattle.chain.specs.declared.ChainAnswer.the-variants.{Passed, LinkBroken}
-use Rattle.calls.specs.OpChain.{unlessEnd, next, Opens, Chain}
 use Rattle.read_back.proofs.Passed.{Accepted, fault-accepted, link-accepted}
 use Rattle.demand.proofs.MadeRows.{row-mu}
 

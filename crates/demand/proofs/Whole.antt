@@ -9,23 +9,24 @@ use native.Mathlib.Omega.{arith}
 use borrow.Author.Tests.{eqb-true, eq-eqb, lt-leb}
 use lib.Dec.{eqb}
 use lib.ListN.{length}
-use Rattle.copy_row.specs.Columns.{at, MU, COLUMNS}
-use Rattle.copy_row.specs.Calls.{Call, Op}
+use Rattle.lists.specs.Lists.{at, All}
+use Rattle.call.specs.Calls.{Call, Op}
+use Rattle.call.specs.Cuts.{CutCall, opsOf, Fits}
+use Rattle.copy_row.specs.Columns.{MU, COLUMNS}
 use Rattle.copy_row.specs.Rows.{tableRow}
 use Rattle.copy_row.proofs.Rows.{row-wide}
-use Rattle.copy_meaning.specs.Steps.{All, LiveStep}
+use Rattle.copy_meaning.specs.Steps.{LiveStep}
 use Rattle.copy_meaning.specs.RowIff.{CallRow}
-use Rattle.copy_meaning.proofs.Check.{fine-passing, passing-fine}
 use Rattle.copy_meaning.proofs.RowIff.{live-passes}
 use Rattle.copy_meaning.proofs.DstRes.{call-row}
+use Rattle.copy_meaning.proofs.Check.{fine-passing, passing-fine}
+use Rattle.calls.specs.OpChain.{next, Chain}
+use Rattle.calls.proofs.Parse.{parse}
+use Rattle.calls.proofs.Chained.{chain}
 use Rattle.chain.specs.Link.{closed}
 use Rattle.chain.specs.Chain.{rowsOf, chainFrom, chainAnswer, chainNumbers}
 use Rattle.chain.specs.declared.ChainAnswer.{ChainAnswer}
 use Rattle.chain.specs.declared.ChainAnswer.the-variants.{Passed, NotRows}
-use Rattle.calls.specs.Cuts.{CutCall, opsOf, Fits}
-use Rattle.calls.specs.OpChain.{next, Chain}
-use Rattle.calls.proofs.Parse.{parse}
-use Rattle.calls.proofs.Chained.{chain}
 use Rattle.read_back.proofs.Passed.{Accepted}
 use Rattle.demand.specs.Demand.{Passes, liveRows, DeadRow, Each, WholeCalls}
 use Rattle.demand.proofs.MadeRows.{row-mu}

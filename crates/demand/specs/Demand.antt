@@ -9,23 +9,23 @@ use Prim.Native.Nat.{ℕ, _*_, _/_, _%_, _^_, _≤_, _<_}
 use lib.Dec.{eqb}
 use lib.ListN.{length, take}
 use Rattle.answer.specs.declared.Answer.{Answer}
-use Rattle.records.specs.Lists.{store}
-use Rattle.copy_row.specs.Columns.{at, MU, COLUMNS}
+use Rattle.lists.specs.Lists.{store, at, All}
 use Rattle.records.specs.declared.TableAnswer.the-variants.{Made}
-use Rattle.copy_row.specs.Calls.{Call, Piece, opRecord}
-use Rattle.copy_row.specs.Trace.{OP-WIDTH, copyAnswer, copyAfter}
-use Rattle.copy_row.specs.declared.Functionality.{Functionality}
+use Rattle.call.specs.Calls.{Call, Piece, callWith}
+use Rattle.call.specs.Ops.{opRecord, OP-WIDTH}
+use Rattle.call.specs.Flat.{CALL-WIDTH, callNumbers}
+use Rattle.call.specs.Cuts.{Words, CutCall, opsOf, Fits, HasRow, callsOf}
+use Rattle.call.specs.declared.Functionality.{Functionality}
+use Rattle.expansion_cut.specs.Pieces.{Bytes}
+use Rattle.expansion.specs.Refusals.{expansionNumbers}
+use Rattle.expansion.specs.Expansion.{Lent, answerFor, lentAfter}
+use Rattle.copy_row.specs.Columns.{MU, COLUMNS}
+use Rattle.copy_row.specs.Trace.{copyAnswer, copyAfter}
 use Rattle.copy_residues.specs.Residues.{residue, RESIDUES}
-use Rattle.copy_meaning.specs.Steps.{All, Words}
 use Rattle.copy_meaning.specs.RowIff.{InRange, CallRow}
 use Rattle.chain.specs.Chain.{rowsOf, chainAnswer, chainNumbers}
 use Rattle.chain.specs.declared.ChainAnswer.the-variants.{Passed}
-use Rattle.calls.specs.Cuts.{CutCall, opsOf, Fits}
-use Rattle.calls.specs.OpChain.{HasRow, callsOf}
-use Rattle.expansion.specs.Refusals.{expansionNumbers}
-use Rattle.expansion.specs.Expansion.{callWith, Lent, answerFor, lentAfter}
-use Rattle.expansion_cut.specs.Pieces.{Bytes}
-use Rattle.read_back.specs.ReadBack.{CALL-WIDTH, callNumbers, readBackAnswer, opsAfter, callsAfter, readBackNumbers}
+use Rattle.read_back.specs.ReadBack.{readBackAnswer, opsAfter, callsAfter, readBackNumbers}
 use Rattle.read_back.specs.declared.ReadBackAnswer.the-variants.{Read, BufferShort}
 
 -- "A list passes under a gap when the chain check, given both, refuses nothing"

@@ -4,28 +4,23 @@ use mathlib.Core.Path.{_≡_}
 use mathlib.Core.List.{List, [], _∷_, _++_, flatMap}
 use Prim.Native.Nat.{ℕ, _+_, _*_, _^_}
 use lib.ListN.{set, take, drop, replicate}
+use Rattle.lists.specs.Lists.{All}
 use Rattle.field.specs.Field.{p}
 use Rattle.records.specs.declared.TableAnswer.the-variants.{Made}
+use Rattle.call.specs.Ops.{opRecord}
+use Rattle.call.specs.Flat.{callNumbers}
+use Rattle.call.specs.Cuts.{CutCall, opsOf, Fits, callsOf}
+use Rattle.call.specs.Instances.{wide, narrow}
+use Rattle.call.specs.declared.Functionality.the-variants.{Copy, Set, Write}
+use Rattle.expansion.specs.Expansion.{Lent, lent}
 use Rattle.copy_row.specs.Columns.{SRC, SRC-INCR, DST-INCR, MU-COM-WIDE, COLUMNS}
-use Rattle.copy_row.specs.Calls.{Piece, opRecord}
 use Rattle.copy_row.specs.Rows.{tableRow, paddingRow}
 use Rattle.copy_row.specs.Trace.{copyAnswer, copyAfter}
-use Rattle.copy_row.specs.declared.Functionality.the-variants.{Copy, Set, Write}
-use Rattle.copy_meaning.specs.Steps.{All}
 use Rattle.chain.specs.Chain.{chainAnswer}
 use Rattle.chain.specs.declared.ChainAnswer.the-variants.{Passed, GapTooLarge, NotRows, BadElement, BadRange, BadResidue, LinkBroken, NotEnded}
-use Rattle.expansion.specs.Expansion.{Lent, lent}
-use Rattle.calls.specs.Cuts.{CutCall, opsOf, Fits}
-use Rattle.calls.specs.OpChain.{callsOf}
-use Rattle.read_back.specs.ReadBack.{callNumbers, readOps, readCalls, readBackAnswer}
+use Rattle.read_back.specs.ReadBack.{readOps, readCalls, readBackAnswer}
 use Rattle.read_back.specs.declared.ReadBackAnswer.the-variants.{Read, BufferShort}
 use Rattle.demand.specs.Demand.{WholeCalls, AnyCall, Try, Typed, answered, accepted, acceptedOps}
-
-abbrev pub wide : ℕ → Piece
-wide byte = record { width = 8; value = replicate 8 byte }
-
-abbrev pub narrow : ℕ → Piece
-narrow byte = record { width = 1; value = byte ∷ replicate 7 0 }
 
 -- a Copy of nine bytes in two rows, an empty Set whose one row has width 8 and values, and a Write of one byte; the gap is 8
 abbrev pub threeKinds : List CutCall

@@ -4,9 +4,9 @@ use mathlib.Core.Path.{_≡_}
 use Prim.Native.Nat.{_-_, _^_}
 use Rattle.field.specs.Field.{p, mulP}
 use Rattle.records.specs.RowCount.{rowCount}
-use Rattle.copy_residues.specs.Examples.{ResidueExamples}
-use Rattle.memw_rows.specs.CarryExamples.{CarryExamples}
 use Rattle.classify.specs.RouteExamples.{RouteExamples}
+use Rattle.memw_rows.specs.CarryExamples.{CarryExamples}
+use Rattle.copy_residues.specs.Examples.{ResidueExamples}
 
 pub record StarredExamples : Type 0 where
   -- "0 records: 4 rows; 5: 8"

@@ -2,8 +2,8 @@
 use mathlib.Core.Path.{_≡_, refl, ap, _∙_}
 use mathlib.Core.List.{List, [], _∷_}
 use Prim.Native.Nat.{ℕ, _<_}
-use Rattle.copy_row.specs.Calls.{Call}
-use Rattle.calls.specs.Cuts.{rest}
+use Rattle.call.specs.Calls.{Call}
+use Rattle.call.specs.Cuts.{rest}
 use Rattle.expansion_rows.specs.Rows.{copyRowWidth, Row, rowOf, rowsFrom}
 use Rattle.expansion_rows.specs.Turns.{turnBytes, turnStamps, rowOp, rowOps, passBytes, passStamps}
 use Rattle.expansion_rows.proofs.RowList.{rows-none, rows-next, rows-ind}

@@ -3,8 +3,8 @@ use mathlib.Core.Bool.{Bool, true, false, cond}
 use mathlib.Core.List.{List, [], _∷_}
 use Prim.Native.Nat.{ℕ}
 use lib.Dec.{eqb}
-use Rattle.copy_row.specs.Calls.{Call, Op}
-use Rattle.copy_meaning.specs.Steps.{All}
+use Rattle.lists.specs.Lists.{All}
+use Rattle.call.specs.Calls.{Call, Op}
 use Rattle.window.specs.Window.{writeBytes}
 use Rattle.expansion_rows.specs.Rows.{Row, rowsOf}
 use Rattle.expansion_rows.specs.Turns.{rowOps, passBytes}

@@ -7,8 +7,8 @@ use native.Mathlib.Omega.{arith}
 use borrow.Author.Tests.{eq-eqb, ne-eqb}
 use lib.Dec.{leb, ltb}
 use lib.ListN.{length, take, drop, getD}
-use Rattle.records.specs.Lists.{store}
-use Rattle.copy_row.specs.Calls.{Call, Op}
+use Rattle.lists.specs.Lists.{store}
+use Rattle.call.specs.Calls.{Call, Op}
 use Rattle.window.specs.Window.{windowOf}
 use Rattle.expansion_rows.specs.Rows.{rowsOf}
 use Rattle.expansion_rows.specs.Turns.{rowOps, passBytes, passStamps}

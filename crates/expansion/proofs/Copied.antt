@@ -6,10 +6,10 @@ use Prim.Native.Nat.{ℕ, _+_, _-_, _≤_, _<_}
 use native.Mathlib.Omega.{arith}
 use lib.ListN.{length, take, drop}
 use lib.Seq.{take-add, drop-drop}
-use Rattle.records.specs.Lists.{store}
-use Rattle.records.proofs.Store.{store-none, store-append, run-length}
-use Rattle.copy_row.specs.Calls.{Call, Op}
-use Rattle.calls.specs.Cuts.{rest}
+use Rattle.lists.specs.Lists.{store}
+use Rattle.lists.proofs.Store.{store-none, store-append, run-length}
+use Rattle.call.specs.Calls.{Call, Op}
+use Rattle.call.specs.Cuts.{rest}
 use Rattle.window.specs.Window.{writeBytes}
 use Rattle.window.proofs.Window.{cells-run}
 use Rattle.expansion_rows.specs.Rows.{copyRowWidth, rowOf, rowsFrom}

@@ -9,10 +9,10 @@ use native.Mathlib.Omega.{arith}
 use borrow.Author.Tests.{eq-eqb, ne-eqb, eqb-true, eqb-false}
 use lib.Dec.{eqb}
 use lib.ListN.{length, replicate, length-append}
-use Rattle.copy_row.specs.Calls.{Call, Piece, Op}
-use Rattle.copy_meaning.specs.Steps.{All, Words, PieceOk}
-use Rattle.calls.specs.Cuts.{cutFrom, Cut, Sound, Fits}
-use Rattle.calls.proofs.Cuts.{cut-single}
+use Rattle.lists.specs.Lists.{All}
+use Rattle.call.specs.Calls.{Call, Piece, Op}
+use Rattle.call.specs.Cuts.{Words, PieceOk, cutFrom, Cut, Sound, Fits}
+use Rattle.call.proofs.Cuts.{cut-single}
 use Rattle.window.specs.Window.{Window, windowOf}
 use Rattle.expansion_rows.specs.Rows.{copyRowWidth, Row, rowsOf}
 use Rattle.expansion_rows.specs.Turns.{inverted, valueAt, turnBytes, rowOps, passAccesses}

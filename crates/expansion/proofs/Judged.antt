@@ -6,13 +6,13 @@ use Prim.Native.Nat.{ℕ, zero, suc, _+_, _-_, _*_, _^_, _≤_, _<_}
 use native.Mathlib.Omega.{arith}
 use borrow.Author.Tests.{lt-ltb, ltb-true, ltb-false, leb-false, eq-eqb, ne-eqb, eqb-true, eqb-false, not-false}
 use lib.Dec.{eqb, ltb}
-use Rattle.records.proofs.Tests.{same-test}
-use Rattle.copy_row.specs.Calls.{Call}
-use Rattle.copy_row.specs.Trace.{OP-WIDTH}
+use Rattle.lists.proofs.Tests.{same-test}
+use Rattle.call.specs.Calls.{Call}
+use Rattle.call.specs.Ops.{OP-WIDTH}
 use Rattle.access.specs.Access.{ACCESS-WIDTH}
+use Rattle.expansion.specs.Refusals.{opCount, accessCount, refusals, expansionAnswer, expansionNumbers, gapTooLarge, badWindow, lastStamp, notGapApart, pastIndex, outsideWindow, bufferShort}
 use Rattle.expansion.specs.declared.ExpansionAnswer.{ExpansionAnswer}
 use Rattle.expansion.specs.declared.ExpansionAnswer.the-variants.{Expanded, GapTooLarge, BadWindow, LastStamp, NotGapApart, PastIndex, OutsideWindow, BufferShort}
-use Rattle.expansion.specs.Refusals.{opCount, accessCount, refusals, expansionAnswer, expansionNumbers, gapTooLarge, badWindow, lastStamp, notGapApart, pastIndex, outsideWindow, bufferShort}
 
 -- Tests
 

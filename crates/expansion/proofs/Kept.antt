@@ -9,9 +9,11 @@ use native.Mathlib.Omega.{arith}
 use borrow.Author.Tests.{eqb-true, eqb-false}
 use lib.Dec.{eqb}
 use lib.ListN.{length, getD}
-use Rattle.copy_row.specs.Calls.{Call, Op}
+use Rattle.lists.proofs.Places.{Where, below, inside, above, where-is}
+use Rattle.call.specs.Calls.{Call, Op}
 use Rattle.window.specs.Window.{writeBytes, writeStamps}
 use Rattle.window.proofs.Window.{length-cells, length-bytes}
+use Rattle.window.proofs.SingleCells.{cells-at, write-below, write-above, write-inside, stamps-below, stamps-above}
 use Rattle.expansion_rows.specs.Rows.{copyRowWidth, rowOf, rowsFrom, rowsOf}
 use Rattle.expansion_rows.specs.Turns.{inverted, readStamp, writeStamp, valueAt, turnBytes, turnStamps, rowOp, rowOps, passBytes, passStamps}
 use Rattle.expansion_rows.specs.Held.{heldBytes, heldStamps, heldAllBytes, heldAllStamps}
@@ -19,7 +21,6 @@ use Rattle.expansion_rows.proofs.Width.{width-eight, width-within}
 use Rattle.expansion_rows.proofs.Lengths.{turn-bytes-length}
 use Rattle.expansion.specs.Expansion.{deferred}
 use Rattle.expansion.specs.Consequences.{Outside}
-use Rattle.expansion.proofs.At.{Where, below, inside, above, where-is, cells-at, write-below, write-above, write-inside, stamps-below, stamps-above}
 use Rattle.expansion.proofs.ByRow.{call-ind, no-bytes, no-stamps, no-ops, row-bytes, row-stamps, row-ops}
 
 -- Outside a range, outside its parts

@@ -2,7 +2,6 @@ pub mod Judged
 pub mod Moved
 pub mod Cut
 pub mod CallBytes
-pub mod At
 pub mod ByRow
 pub mod Kept
 pub mod Copied

@@ -9,12 +9,12 @@ use native.Mathlib.Omega.{arith}
 use borrow.Author.Tests.{eq-eqb, ne-eqb, eqb-true}
 use lib.Dec.{eqb}
 use lib.ListN.{length, length-append}
-use Rattle.records.specs.Lists.{store}
+use Rattle.lists.specs.Lists.{store, All}
+use Rattle.lists.proofs.Joined.{flatMap-append, flatMap-length, all-append}
+use Rattle.lists.proofs.Store.{length-store, store-append}
 use Rattle.records.specs.Records.{recordAt}
-use Rattle.records.proofs.Store.{length-store, store-append}
-use Rattle.copy_row.specs.Calls.{Call, Op, opRecord, opOf}
-use Rattle.copy_row.specs.Trace.{OP-WIDTH}
-use Rattle.copy_meaning.specs.Steps.{All}
+use Rattle.call.specs.Calls.{Call, Op}
+use Rattle.call.specs.Ops.{opRecord, opOf, OP-WIDTH}
 use Rattle.access.specs.Access.{Access, accessRecord, ACCESS-WIDTH}
 use Rattle.window.specs.Window.{Window, windowOf, readAccess, writeAccess}
 use Rattle.window.proofs.Window.{length-cells}
@@ -23,7 +23,7 @@ use Rattle.expansion_rows.specs.Turns.{inverted, readStamp, writeStamp, valueAt
 use Rattle.expansion_rows.specs.Held.{heldAllBytes, heldAllStamps, heldAccesses, opsFrom}
 use Rattle.expansion_rows.specs.Inside.{Bytes, CallInside, PassInside, HeldInside}
 use Rattle.expansion_rows.proofs.RowList.{rows-none, rows-next}
-use Rattle.expansion_rows.proofs.Lengths.{flatMap-append, flatMap-length, row-ops-length, pass-bytes-length, pass-stamps-length, pass-accesses-length}
+use Rattle.expansion_rows.proofs.Lengths.{row-ops-length, pass-bytes-length, pass-stamps-length, pass-accesses-length}
 use Rattle.expansion_rows.proofs.HeldOps.{row-ops-eight, ops-back, flat-ops-length, each-op, copy-held}
 use Rattle.expansion.specs.Refusals.{opCount, accessCount}
 use Rattle.expansion.specs.Expansion.{emptyOp, orEmpty, callOps, deferred, callBytes, callStamps, callAccesses, Lent, lent, expanded}
@@ -33,10 +33,6 @@ use Rattle.expansion.proofs.Judged.{Accepted, dest-fits}
 
 abbrev Wide : Access → Type 0
 Wide a = length (accessRecord a) ≡ 29
-
-all-append : {A : Type 0} (P : A → Type 0) (xs ys : List A) → All P xs → All P ys → All P (xs ++ ys)
-all-append P [] ys h k = k
-all-append P (x ∷ xs) ys h k = (h .0, all-append P xs ys (h .1) k)
 
 turn-wide : (c : Call) (w : ℕ) (m : Window) → All Wide (turnAccesses c w m)
 unfolding turnAccesses

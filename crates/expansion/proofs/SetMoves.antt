@@ -11,16 +11,17 @@ use borrow.Author.Tests.{lt-ltb, le-ltb, ltb-true, ltb-false, le-leb, lt-leb, le
 use lib.Dec.{leb, ltb}
 use lib.ListN.{length, take, getD, length-append, List·getD-append}
 use lib.Seq.{getD-append-add, getD-take, length-take-le}
-use Rattle.copy_row.specs.Calls.{Call, Op}
-use Rattle.calls.specs.Cuts.{rest}
+use Rattle.lists.proofs.Places.{Where, below, inside, above, where-is}
+use Rattle.call.specs.Calls.{Call, Op}
+use Rattle.call.specs.Cuts.{rest}
 use Rattle.window.proofs.Window.{length-cells}
+use Rattle.window.proofs.SingleCells.{cells-at}
 use Rattle.expansion_rows.specs.Rows.{copyRowWidth, Row, rowsFrom, rowsOf}
 use Rattle.expansion_rows.specs.Turns.{valueAt, turnBytes, rowOps, passBytes}
 use Rattle.expansion_rows.proofs.Width.{width-eight, width-within}
 use Rattle.expansion_rows.proofs.RowList.{rows-next}
 use Rattle.expansion_rows.proofs.Lengths.{turn-bytes-length}
 use Rattle.expansion.specs.Consequences.{Outside, placeIn}
-use Rattle.expansion.proofs.At.{Where, below, inside, above, where-is, cells-at}
 use Rattle.expansion.proofs.ByRow.{call-ind, row-bytes, row-ops}
 use Rattle.expansion.proofs.Kept.{turn-kept, turn-dest, pass-kept}
 

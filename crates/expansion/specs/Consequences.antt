@@ -6,17 +6,15 @@ use mathlib.Core.List.{List, [], _∷_, map, flatMap}
 use Prim.Native.Nat.{ℕ, _+_, _-_, _≤_, _<_}
 use lib.Dec.{leb, ltb}
 use lib.ListN.{length, take, drop}
-use Rattle.records.specs.Lists.{store}
-use Rattle.copy_row.specs.Columns.{at}
-use Rattle.copy_row.specs.Calls.{Call, Piece, Op}
-use Rattle.copy_meaning.specs.Steps.{Words}
-use Rattle.calls.specs.Cuts.{CutCall, cutFrom, Fits}
+use Rattle.lists.specs.Lists.{store, at}
+use Rattle.call.specs.Calls.{Call, Piece, Op}
+use Rattle.call.specs.Cuts.{Words, CutCall, cutFrom, Fits}
 use Rattle.window.specs.Window.{windowOf}
-use Rattle.expansion_cut.specs.Pieces.{Bytes}
 use Rattle.expansion_rows.specs.Rows.{Row, rowsOf}
-use Rattle.expansion.specs.declared.ExpansionAnswer.the-variants.{Expanded}
+use Rattle.expansion_cut.specs.Pieces.{Bytes}
 use Rattle.expansion.specs.Refusals.{opCount, accessCount}
 use Rattle.expansion.specs.Expansion.{callOps, callBytes, callStamps, callAccesses, Lent, answerFor}
+use Rattle.expansion.specs.declared.ExpansionAnswer.the-variants.{Expanded}
 
 -- what the rows of a call move, in order
 abbrev pub callPieces : Call → List ℕ → List Piece

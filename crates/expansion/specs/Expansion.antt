@@ -6,21 +6,17 @@ use mathlib.Core.Bool.{cond}
 use mathlib.Core.List.{List, [], _∷_, _++_, flatMap}
 use lib.Dec.{eqb}
 use lib.ListN.{length, replicate}
-use Rattle.records.specs.Lists.{store}
-use Rattle.copy_row.specs.Calls.{Call, Op, opRecord, kindNumber}
-use Rattle.copy_row.specs.declared.Functionality.{Functionality}
+use Rattle.lists.specs.Lists.{store}
+use Rattle.call.specs.Calls.{Call, Op}
+use Rattle.call.specs.Ops.{opRecord}
 use Rattle.access.specs.Access.{Access, accessRecord}
 use Rattle.window.specs.Window.{Window, windowOf}
 use Rattle.expansion_rows.specs.Rows.{rowsOf}
 use Rattle.expansion_rows.specs.Turns.{rowOps, passBytes, passStamps, passAccesses}
 use Rattle.expansion_rows.specs.Held.{heldAllBytes, heldAllStamps, heldAccesses}
+use Rattle.expansion.specs.Refusals.{expansionAnswer}
 use Rattle.expansion.specs.declared.ExpansionAnswer.{ExpansionAnswer}
 use Rattle.expansion.specs.declared.ExpansionAnswer.the-variants.{Expanded, GapTooLarge, BadWindow, LastStamp, NotGapApart, PastIndex, OutsideWindow, BufferShort}
-use Rattle.expansion.specs.Refusals.{expansionAnswer}
-
--- the call that is handed in
-abbrev pub callWith : Functionality → ℕ → ℕ → ℕ → ℕ → Call
-callWith kind timestamp src dst count = record { kind = kindNumber kind; stamp = timestamp; src = src; dst = dst; count = count }
 
 -- the one operation record of an empty call
 abbrev pub emptyOp : Call → Op

@@ -5,10 +5,10 @@ use mathlib.Core.Bool.{Bool, cond, not, _&&_, _||_}
 use mathlib.Core.List.{List, [], _∷_}
 use lib.Dec.{eqb, leb, ltb}
 use lib.ListN.{length}
-use Rattle.answer.specs.declared.Answer.{Answer}
 use Rattle.answer.specs.Numbers.{accepted, refused}
-use Rattle.copy_row.specs.Calls.{Call}
-use Rattle.copy_row.specs.Trace.{OP-WIDTH}
+use Rattle.answer.specs.declared.Answer.{Answer}
+use Rattle.call.specs.Calls.{Call}
+use Rattle.call.specs.Ops.{OP-WIDTH}
 use Rattle.access.specs.Access.{ACCESS-WIDTH}
 use Rattle.expansion_rows.specs.Rows.{rowsOf}
 use Rattle.expansion.specs.declared.ExpansionAnswer.{ExpansionAnswer}

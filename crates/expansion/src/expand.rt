@@ -3,21 +3,20 @@
 ghost use mathlib.Core.Path.{_≡_};
 ghost use Prim.Native.Nat.{_*_, _^_, _≤_, _<_};
 ghost use lib.ListN.{length};
-ghost use Rattle.records.specs.Lists.{store};
-ghost use Rattle.copy_row.specs.Calls.{opRecord};
-ghost use Rattle.copy_row.specs.Trace.{OP-WIDTH};
+ghost use Rattle.lists.specs.Lists.{store};
+ghost use Rattle.call.specs.Calls.{callOf};
+ghost use Rattle.call.specs.Ops.{opRecord, OP-WIDTH};
 ghost use Rattle.access.specs.Access.{ACCESS-WIDTH};
-ghost use Rattle.expansion_rows.specs.Rows.{callOf};
 ghost use Rattle.expansion_rows.specs.Inside.{CallInside};
 ghost use Rattle.expansion.specs.Refusals.{opCount, accessCount};
 ghost use Rattle.expansion.specs.Expansion.{emptyOp, lent, expanded, answerFor, lentAfter};
 use crate::ExpansionAnswer;
 use crate::judge::expansion_answer;
-use expansion_rows::CopyCall;
+use call::CopyCall;
 use expansion_rows::held::write_pass;
 use expansion_rows::rows::op_record;
 use expansion_rows::turns::read_pass;
-use records::lists::put;
+use lists::slices::put;
 
 // The one operation record of an empty call.
 fn write_empty(call: CopyCall, ops: &mut [u64])

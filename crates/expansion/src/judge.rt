@@ -4,10 +4,11 @@ ghost use mathlib.Core.Path.{_≡_};
 ghost use Prim.Native.Nat.{_+_, _-_, _*_, _^_, _≤_, _<_};
 ghost use lib.Dec.{ltb};
 ghost use lib.ListN.{length};
-ghost use Rattle.expansion_rows.specs.Rows.{callOf, rowsOf};
+ghost use Rattle.call.specs.Calls.{callOf};
+ghost use Rattle.expansion_rows.specs.Rows.{rowsOf};
 ghost use Rattle.expansion.specs.Refusals.{opCount, accessCount, notGapApart, pastIndex, outsideWindow, expansionAnswer};
 use crate::ExpansionAnswer;
-use expansion_rows::CopyCall;
+use call::CopyCall;
 use expansion_rows::rows::row_count;
 
 // Whether `at + count`, a plain sum, is above `end`.

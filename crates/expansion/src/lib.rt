@@ -1,12 +1,13 @@
 // The expansion of one call over a window. Document 01: "Expansion (`collect_copy_ops`)". Every call has an answer, and a refusal writes
 // nothing. Assumes nothing.
 use answer::Answer;
-use copy_row::Functionality;
-use expansion_rows::CopyCall;
+use call::CopyCall;
+use call::Functionality;
+use call::kind_number;
 ghost use mathlib.Core.Path.{_≡_};
-ghost use Rattle.copy_row.specs.Calls.{kindNumber};
+ghost use Rattle.call.specs.Calls.{callWith};
 ghost use Rattle.expansion.specs.Refusals.{expansionNumbers};
-ghost use Rattle.expansion.specs.Expansion.{callWith, lent, answerFor, lentAfter};
+ghost use Rattle.expansion.specs.Expansion.{lent, answerFor, lentAfter};
 
 pub mod expand;
 pub mod judge;
@@ -47,14 +48,19 @@ pub fn numbers(a: ExpansionAnswer) -> Answer
     }
 }
 
-// The number of a kind.
-fn kind_number(kind: Functionality) -> u64
-    ensures { λ r. ⌜ r ≡ kindNumber kind ⌝ }
+// How many operation records an answer tells of; a refusal has none.
+pub fn records_in(answer: ExpansionAnswer) -> usize
+    ensures { λ r. ⌜ r ≡ expansionNumbers answer .answer .value ⌝ }
 {
-    match kind {
-        Functionality::Copy => 0,
-        Functionality::Set => 1,
-        Functionality::Write => 2,
+    match answer {
+        ExpansionAnswer::Expanded { ops, accesses: _ } => ops,
+        ExpansionAnswer::GapTooLarge => 0,
+        ExpansionAnswer::BadWindow => 0,
+        ExpansionAnswer::LastStamp => 0,
+        ExpansionAnswer::NotGapApart => 0,
+        ExpansionAnswer::PastIndex => 0,
+        ExpansionAnswer::OutsideWindow => 0,
+        ExpansionAnswer::BufferShort => 0,
     }
 }
 

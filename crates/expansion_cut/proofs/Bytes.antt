@@ -6,9 +6,9 @@ use mathlib.Core.List.{List, [], _∷_, _++_}
 use Prim.Native.Nat.{ℕ, zero, suc, _+_, _<_}
 use native.Mathlib.Omega.{arith}
 use lib.ListN.{take, drop, set, replicate}
-use Rattle.records.specs.Lists.{store}
-use Rattle.copy_row.specs.Calls.{Call}
-use Rattle.copy_meaning.specs.Steps.{All, PieceOk}
+use Rattle.lists.specs.Lists.{store, All}
+use Rattle.call.specs.Calls.{Call}
+use Rattle.call.specs.Cuts.{PieceOk}
 use Rattle.window.specs.Window.{cellsAt, writeBytes}
 use Rattle.window.proofs.Window.{length-cells}
 use Rattle.expansion_rows.specs.Turns.{inverted, valueAt, turnBytes}

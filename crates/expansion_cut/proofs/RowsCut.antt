@@ -7,11 +7,11 @@ use Prim.Native.Nat.{ℕ, _-_, _<_}
 use native.Mathlib.Omega.{arith}
 use borrow.Author.Tests.{leb-true, leb-false, le-leb, lt-leb}
 use lib.Dec.{leb}
-use Rattle.copy_row.specs.Calls.{Call}
-use Rattle.copy_row.specs.Rows.{bit}
-use Rattle.copy_meaning.specs.Steps.{All, PieceOk}
-use Rattle.calls.specs.Cuts.{rest, isLast, cutFrom, total}
-use Rattle.calls.proofs.Cuts.{cut-whole}
+use Rattle.lists.specs.Lists.{All}
+use Rattle.words.specs.Words.{bit}
+use Rattle.call.specs.Calls.{Call}
+use Rattle.call.specs.Cuts.{PieceOk, rest, isLast, cutFrom, total}
+use Rattle.call.proofs.Cuts.{cut-whole}
 use Rattle.expansion_rows.specs.Rows.{copyRowWidth, Row, rowOf, rowsOf}
 use Rattle.expansion_rows.specs.Turns.{valueAt, turnBytes, rowOps}
 use Rattle.expansion_rows.proofs.Width.{width-cases, width-within}

@@ -3,9 +3,9 @@
 use mathlib.Core.Path.{_≡_}
 use mathlib.Core.List.{List, [], _∷_}
 use Prim.Native.Nat.{ℕ, _<_}
-use Rattle.copy_row.specs.Calls.{Call, Piece}
-use Rattle.copy_meaning.specs.Steps.{All, PieceOk}
-use Rattle.calls.specs.Cuts.{cutFrom, Cut}
+use Rattle.lists.specs.Lists.{All}
+use Rattle.call.specs.Calls.{Call, Piece}
+use Rattle.call.specs.Cuts.{PieceOk, cutFrom, Cut}
 use Rattle.expansion_rows.specs.Rows.{Row, rowsOf}
 use Rattle.expansion_rows.specs.Turns.{valueAt, turnBytes, rowOps}
 pub use Rattle.expansion_rows.specs.Inside.{Bytes}

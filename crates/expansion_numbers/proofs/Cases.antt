@@ -3,10 +3,10 @@ use mathlib.Core.Path.{_≡_, ap, _∙_}
 use mathlib.Core.List.{List, [], _∷_}
 use Prim.Native.Nat.{ℕ, _≤_, _<_}
 use borrow.Author.Tests.{eq-eqb, ne-eqb, lt-ltb, le-ltb}
-use Rattle.copy_row.specs.declared.Functionality.{Functionality}
+use Rattle.call.specs.Calls.{callWith, kindOf}
+use Rattle.call.specs.declared.Functionality.{Functionality}
 use Rattle.expansion.specs.Refusals.{ExpansionNumbers, expansionNumbers, refusedWith}
-use Rattle.expansion.specs.Expansion.{Lent, callWith, answerFor, lentAfter}
-use Rattle.register_numbers.specs.RegisterNumbers.{kindOf}
+use Rattle.expansion.specs.Expansion.{Lent, answerFor, lentAfter}
 use Rattle.expansion_numbers.specs.ExpansionNumbers.{flatNumbers, slicesAfter, countsAfter}
 
 module _ (kind stamp src dst count gap : ℕ) (l : Lent) where

@@ -4,9 +4,9 @@ use Prim.Native.Nat.{ℕ}
 use mathlib.Core.Bool.{cond}
 use mathlib.Core.List.{List, [], _∷_}
 use lib.Dec.{eqb, ltb}
+use Rattle.call.specs.Calls.{callWith, kindOf}
 use Rattle.expansion.specs.Refusals.{ExpansionNumbers, expansionNumbers, refusedWith}
-use Rattle.expansion.specs.Expansion.{Lent, callWith, answerFor, lentAfter}
-use Rattle.register_numbers.specs.RegisterNumbers.{kindOf}
+use Rattle.expansion.specs.Expansion.{Lent, answerFor, lentAfter}
 
 -- the answer and the number of accesses, windows having at most 65,536 cells
 unfoldable pub flatNumbers : ℕ → ℕ → ℕ → ℕ → ℕ → ℕ → Lent → ExpansionNumbers

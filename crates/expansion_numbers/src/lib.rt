@@ -1,8 +1,8 @@
 // `collect_copy_ops` for callers that have numbers and slices only: the kind as a number, and both counts in an array. Assumes nothing.
 use answer::Answer;
 use answer::refuse;
+use call::kind_of;
 use expansion::ExpansionAnswer;
-use register_numbers::kind_of;
 ghost use mathlib.Core.Path.{_≡_};
 ghost use Rattle.expansion.specs.Refusals.{expansionNumbers};
 ghost use Rattle.expansion.specs.Expansion.{lent};

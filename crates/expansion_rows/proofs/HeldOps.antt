@@ -7,16 +7,15 @@ use native.Mathlib.Nat.{add-zero}
 use native.Mathlib.Omega.{arith}
 use lib.ListN.{length, take, drop, replicate, length-append}
 use lib.Seq.{take-at, drop-at, getD-drop}
-use Rattle.records.specs.Lists.{store}
+use Rattle.lists.specs.Lists.{store, All}
+use Rattle.lists.proofs.Store.{store-eq}
 use Rattle.records.specs.Records.{recordAt}
-use Rattle.records.proofs.Store.{store-eq}
-use Rattle.copy_row.specs.Calls.{Call, Op, opRecord, opOf}
-use Rattle.copy_row.specs.Trace.{OP-WIDTH}
-use Rattle.copy_row.proofs.Ops.{op-of-record, op-record-length}
-use Rattle.copy_meaning.specs.Steps.{All}
+use Rattle.call.specs.Calls.{Call, Op}
+use Rattle.call.specs.Ops.{opRecord, opOf, OP-WIDTH}
+use Rattle.call.specs.Cuts.{rest}
+use Rattle.call.proofs.Ops.{op-of-record, op-record-length}
 use Rattle.window.specs.Window.{cellsAt}
 use Rattle.window.proofs.Window.{length-cells}
-use Rattle.calls.specs.Cuts.{rest}
 use Rattle.expansion_rows.specs.Rows.{copyRowWidth, Row, rowOf, rowsFrom}
 use Rattle.expansion_rows.specs.Turns.{turnBytes, rowOp, rowOps}
 use Rattle.expansion_rows.specs.Held.{opsFrom}

@@ -6,9 +6,9 @@ use native.Mathlib.Nat.{add-zero}
 use native.Mathlib.Omega.{arith}
 use lib.ListN.{length, take, drop, length-append}
 use borrow.Author.Tests.{eq-eqb, ne-eqb}
-use Rattle.records.proofs.Store.{store-all, run-length, part-back, part-length, part-turn}
-use Rattle.copy_row.specs.Calls.{Call}
-use Rattle.copy_row.specs.Rows.{bit}
+use Rattle.lists.proofs.Store.{store-all, run-length, part-back, part-length, part-turn}
+use Rattle.words.specs.Words.{bit}
+use Rattle.call.specs.Calls.{Call}
 use Rattle.access.specs.Access.{accessRecord}
 use Rattle.window.specs.Window.{windowOf, writeBytes, writeStamps, readAccess, writeAccess, cellsAt, memoryAccess}
 use Rattle.window.proofs.Window.{write-same}

@@ -6,19 +6,21 @@ use Prim.Native.Nat.{ℕ, _+_, _-_, _*_, _^_, _≤_, _<_}
 use native.Mathlib.Omega.{arith}
 use lib.Dec.{eqb}
 use lib.ListN.{length, take, drop, length-append}
-use Rattle.records.specs.Lists.{store}
-use Rattle.records.proofs.Store.{store-none, part-turn, part-length}
-use Rattle.copy_row.specs.Calls.{Call, opRecord}
-use Rattle.copy_row.specs.Rows.{bit}
+use Rattle.lists.specs.Lists.{store}
+use Rattle.lists.proofs.Joined.{flatMap-append, flatMap-more}
+use Rattle.lists.proofs.Store.{store-none, part-turn, part-length}
+use Rattle.words.specs.Words.{bit}
+use Rattle.call.specs.Calls.{Call}
+use Rattle.call.specs.Ops.{opRecord}
+use Rattle.call.specs.Cuts.{rest}
 use Rattle.access.specs.Access.{accessRecord}
 use Rattle.window.specs.Window.{Window, windowOf}
-use Rattle.calls.specs.Cuts.{rest}
 use Rattle.expansion_rows.specs.Rows.{copyRowWidth, Row, rowOf, rowsFrom, rowsOf}
 use Rattle.expansion_rows.specs.Turns.{inverted, turnBytes, turnStamps, turnAccesses, rowOp, rowOps, passBytes, passStamps, passAccesses}
 use Rattle.expansion_rows.specs.Inside.{PassInside}
 use Rattle.expansion_rows.proofs.Width.{width-pos, width-eight, width-within}
 use Rattle.expansion_rows.proofs.RowList.{rows-none, rows-next}
-use Rattle.expansion_rows.proofs.Lengths.{flatMap-append, flatMap-more, turn-accesses-length}
+use Rattle.expansion_rows.proofs.Lengths.{turn-accesses-length}
 
 -- The first of the rows that are left, and those behind it
 

@@ -6,8 +6,8 @@ use Prim.Native.Nat.{ℕ, zero, suc, _+_, _-_, _≤_, _<_}
 use native.Mathlib.Omega.{arith}
 use lib.ListN.{length}
 use borrow.Author.Tests.{eq-eqb, ne-eqb}
-use Rattle.copy_row.specs.Calls.{Call}
-use Rattle.calls.specs.Cuts.{rest}
+use Rattle.call.specs.Calls.{Call}
+use Rattle.call.specs.Cuts.{rest}
 use Rattle.expansion_rows.specs.Rows.{copyRowWidth, Row, rowOf, rowsWithin, rowsFrom, rowsOf}
 use Rattle.expansion_rows.proofs.Width.{width-pos, width-within}
 

@@ -7,7 +7,7 @@ use Prim.Native.Nat.{ℕ, _≤_, _<_}
 use native.Mathlib.Omega.{arith}
 use lib.Dec.{leb}
 use borrow.Author.Tests.{leb-true}
-use Rattle.copy_row.specs.Calls.{Call}
+use Rattle.call.specs.Calls.{Call}
 use Rattle.expansion_rows.specs.Rows.{copyRowWidth}
 
 -- 1 or 8

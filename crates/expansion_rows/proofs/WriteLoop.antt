@@ -5,16 +5,16 @@ use Prim.Native.Nat.{ℕ, suc, _+_, _-_, _*_, _≤_, _<_}
 use native.Mathlib.Nat.{sub-zero}
 use native.Mathlib.Omega.{arith}
 use lib.ListN.{length, take, drop}
-use Rattle.records.specs.Lists.{store}
+use Rattle.lists.specs.Lists.{store}
+use Rattle.lists.proofs.Joined.{flatMap-more}
+use Rattle.lists.proofs.Store.{store-none, part-turn, part-length}
 use Rattle.records.specs.Records.{recordAt}
-use Rattle.records.proofs.Store.{store-none, part-turn, part-length}
-use Rattle.copy_row.specs.Calls.{Op, opOf}
-use Rattle.copy_row.specs.Trace.{OP-WIDTH}
+use Rattle.call.specs.Calls.{Op}
+use Rattle.call.specs.Ops.{opOf, OP-WIDTH}
 use Rattle.access.specs.Access.{accessRecord}
 use Rattle.window.specs.Window.{windowOf}
 use Rattle.expansion_rows.specs.Held.{heldBytes, heldStamps, heldAccess, heldAllBytes, heldAllStamps, heldAccesses, opsFrom}
 use Rattle.expansion_rows.specs.Inside.{HeldInside}
-use Rattle.expansion_rows.proofs.Lengths.{flatMap-more}
 
 -- The records that are left of n, from record k on
 

@@ -3,8 +3,8 @@
 use Prim.Native.Nat.{ℕ, zero, suc, _+_}
 use mathlib.Core.List.{List, [], _∷_}
 use Rattle.records.specs.Records.{recordAt}
-use Rattle.copy_row.specs.Calls.{Op, opOf}
-use Rattle.copy_row.specs.Trace.{OP-WIDTH}
+use Rattle.call.specs.Calls.{Op}
+use Rattle.call.specs.Ops.{opOf, OP-WIDTH}
 use Rattle.access.specs.Access.{Access}
 use Rattle.window.specs.Window.{Window, windowOf, writeBytes, writeStamps, writeAccess}
 use Rattle.expansion_rows.specs.Turns.{writeStamp}

@@ -4,13 +4,8 @@ use Prim.Native.Nat.{ℕ, zero, suc}
 use mathlib.Core.Bool.{cond}
 use mathlib.Core.List.{List, [], _∷_}
 use lib.Dec.{leb, eqb}
-use Rattle.copy_row.specs.Calls.{Call}
-use Rattle.calls.specs.Cuts.{rest}
-use Rattle.expansion_rows.specs.declared.CopyCall.{CopyCall}
-
--- the call that the code's struct holds
-abbrev pub callOf : CopyCall → Call
-callOf c = record { kind = c .kind; stamp = c .timestamp; src = c .src; dst = c .dst; count = c .count }
+use Rattle.call.specs.Calls.{Call}
+use Rattle.call.specs.Cuts.{rest}
 
 -- how many bytes the next row moves, c being what remains of the call. What is built on it goes by two laws only: it is 1 or 8, and at
 -- most what remains

@@ -6,8 +6,8 @@ use Prim.Native.Nat.{ℕ, _+_, _-_}
 use mathlib.Core.Bool.{Bool, cond}
 use mathlib.Core.List.{List, [], _∷_, _++_}
 use lib.Dec.{leb, eqb}
-use Rattle.copy_row.specs.Calls.{Call, Op}
-use Rattle.copy_row.specs.Rows.{bit}
+use Rattle.words.specs.Words.{bit}
+use Rattle.call.specs.Calls.{Call, Op}
 use Rattle.access.specs.Access.{Access}
 use Rattle.window.specs.Window.{Window, windowOf, cellsAt, writeBytes, writeStamps, readAccess, writeAccess}
 use Rattle.expansion_rows.specs.Rows.{Row}

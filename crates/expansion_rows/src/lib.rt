@@ -2,12 +2,3 @@
 pub mod held;
 pub mod rows;
 pub mod turns;
-
-// A call, or what remains of one from some row on. The kind is its number.
-pub struct CopyCall {
-    pub kind: u64,
-    pub timestamp: u64,
-    pub src: u64,
-    pub dst: u64,
-    pub count: u64,
-}

@@ -4,11 +4,12 @@ ghost use mathlib.Core.Path.{_≡_};
 ghost use Prim.Native.Nat.{_+_, _≤_, _<_, _^_};
 ghost use lib.Dec.{leb};
 ghost use lib.ListN.{length};
-ghost use Rattle.copy_row.specs.Calls.{opRecord};
-ghost use Rattle.copy_row.specs.Rows.{bit};
-ghost use Rattle.calls.specs.Cuts.{rest};
-ghost use Rattle.expansion_rows.specs.Rows.{callOf, copyRowWidth, rowsOf};
-use crate::CopyCall;
+ghost use Rattle.words.specs.Words.{bit};
+ghost use Rattle.call.specs.Calls.{callOf};
+ghost use Rattle.call.specs.Ops.{opRecord};
+ghost use Rattle.call.specs.Cuts.{rest};
+ghost use Rattle.expansion_rows.specs.Rows.{copyRowWidth, rowsOf};
+use call::CopyCall;
 use window::accesses::byte_words;
 
 // How many bytes the next row moves.

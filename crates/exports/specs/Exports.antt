@@ -4,8 +4,8 @@ use Prim.Native.Nat.{ℕ}
 use mathlib.Core.Bool.{cond}
 use mathlib.Core.List.{List, [], _∷_}
 use lib.Dec.{eqb}
-use Rattle.answer.specs.declared.Answer.{Answer}
 use Rattle.answer.specs.Numbers.{accepted, refused}
+use Rattle.answer.specs.declared.Answer.{Answer}
 use Rattle.routing.specs.declared.RouteNumbers.{RouteNumbers}
 
 -- Routing

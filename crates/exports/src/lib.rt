@@ -3,7 +3,7 @@
 // from the Rust harness, on numbers and slices". Assumes nothing.
 use access::ACCESS_WIDTH;
 use answer::Answer;
-use records::lists::record_count;
+use records::tables::record_count;
 ghost use mathlib.Core.Path.{_≡_};
 ghost use mathlib.Core.List.{[], _∷_};
 ghost use lib.Dec.{eqb};
@@ -12,23 +12,23 @@ ghost use Rattle.answer.specs.Numbers.{accepted};
 ghost use Rattle.field.specs.Answers.{addAnswer, subAnswer, mulAnswer, fieldNumbers};
 ghost use Rattle.records.specs.Records.{recordCount};
 ghost use Rattle.records.specs.Table.{tableNumbers};
-ghost use Rattle.copy_row.specs.Trace.{copyAnswer, copyAfter};
 ghost use Rattle.registers.specs.Step.{newState};
 ghost use Rattle.register_numbers.specs.RegisterNumbers.{stateNumbers, flatAnswer, stateAfter, recordsAfter};
 ghost use Rattle.classify.specs.declared.MemwRoute.the-variants.{Register as ToRegister, Aligned as ToAligned, General as ToGeneral};
-ghost use Rattle.memw.specs.declared.AccessTable.the-variants.{General, Aligned, Register};
-ghost use Rattle.memw.specs.Tables.{memwAnswer, memwAfter};
 ghost use Rattle.routing.specs.Routing.{routeAnswer, routeAfter, routeNumbers};
 ghost use Rattle.reg_access.specs.RegAccess.{built, pushed};
 ghost use Rattle.reg_access_numbers.specs.RegAccessNumbers.{accessAnswer, recordAfter};
+ghost use Rattle.memw.specs.Tables.{memwAnswer, memwAfter};
+ghost use Rattle.memw.specs.declared.AccessTable.the-variants.{General, Aligned, Register};
+ghost use Rattle.expansion.specs.Expansion.{lent};
+ghost use Rattle.expansion_numbers.specs.ExpansionNumbers.{flatNumbers, slicesAfter, countsAfter as expandedCounts};
+ghost use Rattle.copy_row.specs.Trace.{copyAnswer, copyAfter};
 ghost use Rattle.copy_residues.specs.Answers.{residueAnswer, residueNumbers};
 ghost use Rattle.add_pair.specs.Answers.{addPairAnswer, addPairAfter, addPairNumbers};
 ghost use Rattle.memw_residues.specs.Answers.{residueAnswer as memwResidueAnswer, residueNumbers as memwResidueNumbers};
 ghost use Rattle.chain.specs.Chain.{chainAnswer, chainNumbers};
 ghost use Rattle.read_back.specs.Counts.{countsAfter as readCounts};
 ghost use Rattle.read_back.specs.ReadBack.{readBackAnswer, readBackNumbers, opsAfter, callsAfter};
-ghost use Rattle.expansion.specs.Expansion.{lent};
-ghost use Rattle.expansion_numbers.specs.ExpansionNumbers.{flatNumbers, slicesAfter, countsAfter as expandedCounts};
 ghost use Rattle.exports.specs.Exports.{routedNumbers, countsAfter};
 
 // a + b modulo p, or 14.

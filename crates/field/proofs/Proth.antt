@@ -7,8 +7,8 @@ use native.Mathlib.Nat.{div-add-mod', mod-lt, mod-eq-of-lt, mod-mod-of-dvd, mod-
 use native.Mathlib.Decide.{decLe}
 use native.Mathlib.Omega.{arith}
 use lib.Pow.{pow-add}
-use Rattle.field.proofs.Pigeon.{pigeonhole}
 use Rattle.field.proofs.Laws.{mod-mul-left, mod-mul-right}
+use Rattle.field.proofs.Pigeon.{pigeonhole}
 
 same-mul : (q a b c d : ℕ) → a % q ≡ c % q → b % q ≡ d % q → (a * b) % q ≡ (c * d) % q
 same-mul q a b c d h k =

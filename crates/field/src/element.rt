@@ -5,8 +5,8 @@ use std::num::wrapping_add_u64;
 ghost use mathlib.Core.List.{[], _∷_};
 ghost use mathlib.Core.Path.{_≡_};
 ghost use Prim.Native.Nat.{_+_, _*_, _/_, _%_, _^_, _<_};
-ghost use Rattle.field.specs.Constants.{inv32, inv16, inv64, inv48, negInv32, negInv64, negSevenInv64, eightInv64};
 ghost use Rattle.field.specs.Field.{p, addP, subP, mulP, bitP};
+ghost use Rattle.field.specs.Constants.{inv32, inv16, inv64, inv48, negInv32, negInv64, negSevenInv64, eightInv64};
 
 pub const P: u64 = 18446744069414584321;
 

@@ -3,14 +3,14 @@ use Prim.Native.Nat.{ℕ}
 use mathlib.Core.Path.{_≡_}
 use mathlib.Core.Bool.{true, false}
 use mathlib.Core.List.{List}
+use Rattle.call.specs.declared.Functionality.{Functionality}
+use Rattle.call.specs.declared.Functionality.the-variants.{Copy, Set, Write}
 use Rattle.line_text.specs.Pieces.{before, after, same}
 use Rattle.line_text.specs.Numbers.{numberOf}
 use Rattle.line_text.specs.Lines.{callOf, wordOf, gapOf, gapWord, copyWord, setWord, writeWord}
-use Rattle.line_text.specs.declared.Parsed.the-variants.{Number, Bad}
-use Rattle.copy_row.specs.declared.Functionality.{Functionality}
-use Rattle.copy_row.specs.declared.Functionality.the-variants.{Copy, Set, Write}
-use Rattle.line_text.specs.declared.Word.the-variants.{Known, Unknown}
 use Rattle.line_text.specs.declared.Line.the-variants.{Call, Other}
+use Rattle.line_text.specs.declared.Parsed.the-variants.{Number, Bad}
+use Rattle.line_text.specs.declared.Word.the-variants.{Known, Unknown}
 
 module _ (l : List ℕ) where
   pub call-unknown : wordOf (before 9 l) ≡ Unknown → Other ≡ callOf l

@@ -5,16 +5,16 @@ use Prim.Native.Nat.{ℕ}
 use mathlib.Core.Bool.{cond}
 use mathlib.Core.List.{List, [], _∷_}
 use lib.Dec.{eqb}
-use Rattle.copy_row.specs.declared.Functionality.{Functionality}
-use Rattle.copy_row.specs.declared.Functionality.the-variants.{Copy, Set, Write}
+use Rattle.call.specs.declared.Functionality.{Functionality}
+use Rattle.call.specs.declared.Functionality.the-variants.{Copy, Set, Write}
 use Rattle.line_text.specs.Pieces.{before, after, same}
 use Rattle.line_text.specs.Numbers.{numberOf}
+use Rattle.line_text.specs.declared.Line.{Line}
+use Rattle.line_text.specs.declared.Line.the-variants.{Call, Other}
 use Rattle.line_text.specs.declared.Parsed.{Parsed}
 use Rattle.line_text.specs.declared.Parsed.the-variants.{Number, Bad}
 use Rattle.line_text.specs.declared.Word.{Word}
 use Rattle.line_text.specs.declared.Word.the-variants.{Known, Unknown}
-use Rattle.line_text.specs.declared.Line.{Line}
-use Rattle.line_text.specs.declared.Line.the-variants.{Call, Other}
 
 -- the byte x put in front of the first line
 unfoldable pub onto : ℕ → List (List ℕ) → List (List ℕ)

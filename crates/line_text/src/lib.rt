@@ -8,7 +8,7 @@ ghost use lib.ListN.{length};
 ghost use Rattle.line_text.specs.Pieces.{indexOf, before, after, same};
 ghost use Rattle.line_text.specs.Numbers.{numberOf, digitOf};
 ghost use Rattle.line_text.specs.Lines.{wordOf, gapOf, callOf};
-use copy_row::Functionality;
+use call::Functionality;
 
 pub const TAB: u8 = 9;
 

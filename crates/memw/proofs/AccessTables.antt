@@ -7,15 +7,15 @@ use Prim.Native.Nat.{ℕ, zero, suc, _+_, _-_, _*_, _≤_, _<_}
 use native.Mathlib.Omega.{arith}
 use lib.Dec.{lit≤}
 use lib.ListN.{length, take, drop}
+use Rattle.lists.specs.Lists.{at}
+use Rattle.lists.proofs.Store.{store-none}
+use Rattle.lists.proofs.Flat.{flat-none}
 use Rattle.records.specs.Records.{recordCount, recordAt, firstBad}
 use Rattle.records.specs.Table.{tableAfter}
 use Rattle.records.specs.declared.TableAnswer.{TableAnswer}
 use Rattle.records.specs.declared.TableAnswer.the-variants.{Made}
-use Rattle.records.proofs.Store.{store-none}
-use Rattle.records.proofs.Flat.{flat-none}
 use Rattle.records.proofs.Records.{all-good, record-whole, within-length, within-at}
 use Rattle.records.proofs.Table as tables
-use Rattle.copy_row.specs.Columns.{at}
 use Rattle.access.specs.Access.{accessOf}
 use Rattle.access.proofs.Good.{good-length}
 use Rattle.memw_rows.specs.Rows.{regRowOf}

@@ -6,6 +6,7 @@ ghost use Rattle.memw.specs.Tables.{recordWidth, rowWidth, goodRecord, r
 use crate::AccessTable;
 use access::ACCESS_WIDTH;
 use access::good_access;
+use lists::slices::put;
 use memw_rows::aligned_cols;
 use memw_rows::cols;
 use memw_rows::register_cols;
@@ -15,8 +16,7 @@ use memw_rows::rows::memw_cells;
 use memw_rows::rows::operation;
 use memw_rows::rows::reg_row;
 use memw_rows::rows::register_cells;
-use records::lists::put;
-use records::lists::within_limits;
+use records::tables::within_limits;
 
 // The largest value of each number of a register record.
 const REGISTER_LIMITS: [u64; 8] = [

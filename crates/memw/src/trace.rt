@@ -10,11 +10,11 @@ use crate::tables::good_record;
 use crate::tables::record_width;
 use crate::tables::row_width;
 use crate::tables::write_row;
+use lists::slices::clear;
 use records::TableAnswer;
-use records::lists::clear;
-use records::lists::record_at;
-use records::lists::record_count;
-use records::lists::table_answer;
+use records::tables::record_at;
+use records::tables::record_count;
+use records::tables::table_answer;
 
 // The lowest of the n records of w numbers that is not good, or n.
 fn first_bad(t: AccessTable, records: &[u64], w: usize, n: usize) -> usize

@@ -11,10 +11,10 @@ use borrow.Author.Tests.{leb-true}
 use lib.Dec.{eqb, leb, lit≤}
 use lib.ListN.{drop, replicate, getD-replicate, List·getD-append}
 use lib.Seq.{getD-drop}
+use Rattle.lists.specs.Lists.{at}
+use Rattle.words.specs.Words.{bit}
 use Rattle.field.specs.Field.{addP, bitP}
 use Rattle.field.proofs.Laws.{bit-zero}
-use Rattle.copy_row.specs.Columns.{at}
-use Rattle.copy_row.specs.Rows.{bit}
 use Rattle.access.specs.Access.{Access, WIDTH, IS-READ, accessOf, isWidth}
 use Rattle.access.proofs.Good.{by-width, good-width, good-read}
 use Rattle.memw_rows.specs.MemwColumns as general

@@ -7,10 +7,10 @@ use native.Mathlib.Omega.{arith}
 use borrow.Author.Tests.{lt-ltb, le-ltb, le-leb, lt-leb, eq-eqb, ne-eqb}
 use lib.ListN.{length}
 use Rattle.answer.proofs.Parts.{number-same, place-same, value-same}
-use Rattle.copy_residues.specs.Range.{firstLarge}
-use Rattle.copy_residues.proofs.InRange.{each-below}
 use Rattle.memw.specs.Tables.{rowWidth}
 use Rattle.memw.specs.declared.AccessTable.{AccessTable}
+use Rattle.copy_residues.specs.Range.{firstLarge}
+use Rattle.copy_residues.proofs.InRange.{each-below}
 use Rattle.memw_residues.specs.Residues.{residueCount, tableResidue}
 use Rattle.memw_residues.specs.Elements.{Elements}
 use Rattle.memw_residues.specs.Answers.{residueAnswer, residueNumbers}

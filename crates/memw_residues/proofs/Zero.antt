@@ -5,10 +5,10 @@ use mathlib.Core.List.{List, [], _∷_}
 use Prim.Native.Nat.{ℕ, zero, suc, _+_, _≤_, _<_}
 use native.Mathlib.Omega.{arith}
 use lib.ListN.{length, getD}
+use Rattle.words.specs.Words.{bit}
 use Rattle.field.specs.Field.{addP, bitP}
 use Rattle.field.proofs.Laws.{bit-zero, addP-small}
 use Rattle.field.proofs.Bits.{implies-zero}
-use Rattle.copy_row.specs.Rows.{bit}
 use Rattle.memw_residues.specs.Residues.{muSum, w2, flagResidues, flagResidue}
 use Rattle.memw_residues.specs.declared.Flags.{Flags}
 

@@ -5,11 +5,11 @@ use mathlib.Core.Bool.{cond}
 use mathlib.Core.List.{List}
 use lib.Dec.{leb, ltb, eqb}
 use lib.ListN.{length}
-use Rattle.answer.specs.declared.Answer.{Answer}
 use Rattle.answer.specs.Numbers.{accepted, refused}
-use Rattle.copy_residues.specs.Range.{firstLarge}
+use Rattle.answer.specs.declared.Answer.{Answer}
 use Rattle.memw.specs.Tables.{rowWidth}
 use Rattle.memw.specs.declared.AccessTable.{AccessTable}
+use Rattle.copy_residues.specs.Range.{firstLarge}
 use Rattle.memw_residues.specs.Residues.{residueCount, tableResidue}
 use Rattle.memw_residues.specs.declared.MemwResidueAnswer.{MemwResidueAnswer}
 use Rattle.memw_residues.specs.declared.MemwResidueAnswer.the-variants.{Residue, NoResidue, NotRow, NotElement}

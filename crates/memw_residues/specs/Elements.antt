@@ -1,8 +1,8 @@
 -- Numbers that are elements, as the residues ask of a row. Document 01: "An element is a whole number below p". Assumes nothing.
 use mathlib.Core.List.{List}
 use Prim.Native.Nat.{ℕ, _<_}
+use Rattle.lists.specs.Lists.{at}
 use Rattle.field.specs.Field.{p}
-use Rattle.copy_row.specs.Columns.{at}
 use Rattle.memw_residues.specs.declared.Flags.{Flags}
 
 -- each number of a row is an element

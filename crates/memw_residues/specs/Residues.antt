@@ -5,13 +5,13 @@ use mathlib.Core.Bool.{cond}
 use mathlib.Core.List.{List, [], _∷_}
 use lib.Dec.{leb}
 use lib.ListN.{getD}
+use Rattle.lists.specs.Lists.{at}
 use Rattle.field.specs.Field.{addP, subP, mulP, bitP}
-use Rattle.copy_row.specs.Columns.{at}
-use Rattle.memw.specs.declared.AccessTable.{AccessTable}
-use Rattle.memw.specs.declared.AccessTable.the-variants.{General, Aligned, Register}
 use Rattle.memw_rows.specs.MemwColumns as general
 use Rattle.memw_rows.specs.AlignedColumns as aligned
 use Rattle.memw_rows.specs.RegisterColumns as register
+use Rattle.memw.specs.declared.AccessTable.{AccessTable}
+use Rattle.memw.specs.declared.AccessTable.the-variants.{General, Aligned, Register}
 use Rattle.memw_residues.specs.declared.Flags.{Flags}
 
 -- the columns that both the general and the aligned table's residues read

@@ -5,8 +5,8 @@ use field::element;
 ghost use mathlib.Core.Path.{_≡_};
 ghost use Prim.Native.Nat.{_<_};
 ghost use lib.ListN.{length};
+ghost use Rattle.lists.specs.Lists.{at};
 ghost use Rattle.field.specs.Field.{p, addP, subP, mulP, bitP};
-ghost use Rattle.copy_row.specs.Columns.{at};
 ghost use Rattle.memw_residues.specs.Residues.{muSum, w2, flagResidue};
 ghost use Rattle.memw_residues.specs.Elements.{Elements, FlagElements};
 

@@ -3,10 +3,8 @@
 use Prim.Native.Nat.{ℕ, _+_, _%_, _^_}
 use mathlib.Core.List.{List, [], _∷_, _++_}
 use lib.Dec.{eqb, leb}
-use Rattle.words.specs.Words.{words, halves}
-use Rattle.copy_row.specs.Columns.{at}
-use Rattle.copy_row.specs.Calls.{eightAt}
-use Rattle.copy_row.specs.Rows.{bit}
+use Rattle.lists.specs.Lists.{at, eightAt}
+use Rattle.words.specs.Words.{words, halves, bit}
 use Rattle.access.specs.Access.{Access}
 use Rattle.memw_rows.specs.declared.MemwOperation.{MemwOperation}
 use Rattle.memw_rows.specs.declared.RegRow.{RegRow}

@@ -2,12 +2,12 @@
 ghost use mathlib.Core.Path.{_≡_};
 ghost use Prim.Native.Nat.{_%_, _^_, _≤_, _<_};
 ghost use lib.ListN.{length};
-ghost use Rattle.copy_row.specs.Rows.{bit};
+ghost use Rattle.words.specs.Words.{bit};
 ghost use Rattle.access.specs.Access.{ACCESS-WIDTH, accessOf};
 ghost use Rattle.memw_rows.specs.Rows.{writeFlags, carry, carries, stampWords, addressParts, memwRow, alignedRow, registerRow, operation, regRowOf};
 use crate::MemwOperation;
 use crate::RegRow;
-use copy_row::row::bit;
+use words::bit;
 use words::halves;
 use words::low_word;
 use words::words;

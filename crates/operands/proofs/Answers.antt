@@ -9,25 +9,24 @@ use borrow.Author.Tests.{eq-eqb, ne-eqb, lt-ltb, le-ltb, lt-leb, eqb-true, ltb-f
 use lib.Dec.{eqb, ltb}
 use lib.ListN.{length}
 use Rattle.answer.specs.declared.Answer.{Answer}
+use Rattle.lists.specs.Lists.{first, at}
+use Rattle.lists.proofs.First.{first-all}
 use Rattle.field.specs.Field.{p}
-use Rattle.records.specs.Lists.{first}
-use Rattle.records.proofs.First.{first-all}
-use Rattle.copy_row.specs.Columns.{at, COLUMNS}
+use Rattle.copy_row.specs.Columns.{COLUMNS}
 use Rattle.copy_residues.specs.Range.{firstLarge}
 use Rattle.copy_residues.specs.Cells.{Elements}
-use Rattle.operands.specs.Answers.{faultOf, pairFault, pairAnswerOf, pairAnswer, carryAnswerOf, carryAnswer}
-use Rattle.operands.specs.Answers.{PairNumbers, pairNumbers, carryNumbers}
+use Rattle.copy_residues.proofs.InRange.{large, elements}
 use Rattle.operands.specs.Operands.{conditionsInRow, operandsInRow}
 use Rattle.operands.specs.Pairs.{carryHi, residueLo, residueHi}
+use Rattle.operands.specs.Answers.{faultOf, pairFault, pairAnswerOf, pairAnswer, carryAnswerOf, carryAnswer, PairNumbers, pairNumbers, carryNumbers}
 use Rattle.operands.specs.declared.AddOperand.{AddOperand}
-use Rattle.operands.specs.declared.PairFault.{PairFault}
-use Rattle.operands.specs.declared.PairFault.the-variants as fault
-use Rattle.operands.specs.declared.PairAnswer.{PairAnswer}
-use Rattle.operands.specs.declared.PairAnswer.the-variants as pair
 use Rattle.operands.specs.declared.CarryAnswer.{CarryAnswer}
 use Rattle.operands.specs.declared.CarryAnswer.the-variants as carry
+use Rattle.operands.specs.declared.PairAnswer.{PairAnswer}
+use Rattle.operands.specs.declared.PairAnswer.the-variants as pair
+use Rattle.operands.specs.declared.PairFault.{PairFault}
+use Rattle.operands.specs.declared.PairFault.the-variants as fault
 use Rattle.operands.proofs.Every.{both}
-use Rattle.copy_residues.proofs.InRange.{large, elements}
 
 -- the four outcomes of a judgement, in the order of their tests
 module _ (inRow : Bool) (row : List ℕ) where

@@ -3,9 +3,9 @@ use mathlib.Core.Path.{_≡_, refl, sym, ap, _∙_}
 use mathlib.Core.List.{List, [], _∷_}
 use Prim.Native.Nat.{ℕ, _+_, _<_}
 use lib.IntN.{pos}
+use Rattle.lists.specs.Lists.{at}
 use Rattle.field.specs.Field.{p, addP, mulP}
 use Rattle.field.proofs.Laws.{zero-addP, one-mulP, mul-below}
-use Rattle.copy_row.specs.Columns.{at}
 use Rattle.operands.specs.Operands.{signedP, sumP, termValue, lowOf, highOf, lowValue, highValue}
 use Rattle.operands.specs.Constructors.{cells, dword, linear, constant, fromDwordHl}
 use Rattle.operands.specs.declared.AddLinearTerm.{AddLinearTerm}

@@ -6,13 +6,13 @@ use Prim.Native.Nat.{ℕ, _+_, _-_, _<_, _≤_}
 use native.Mathlib.Omega.{arith}
 use borrow.Author.Tests.{le-leb, lt-leb, leb-true, lt-ltb, le-ltb, ltb-true, ltb-false}
 use lib.Dec.{ltb, leb}
-use Rattle.copy_row.specs.Columns.{at, COLUMNS}
-use Rattle.operands.specs.Operands.{termAt, termsValue, lowOf, highOf, TERMS}
-use Rattle.operands.specs.Operands.{every, termInRow, sumInRow, kindInRow, operandInRow, operandsInRow}
-use Rattle.operands.specs.declared.TermCell.{TermCell}
+use Rattle.lists.specs.Lists.{at}
+use Rattle.copy_row.specs.Columns.{COLUMNS}
+use Rattle.operands.specs.Operands.{termAt, termsValue, lowOf, highOf, TERMS, every, termInRow, sumInRow, kindInRow, operandInRow, operandsInRow}
+use Rattle.operands.specs.declared.AddOperand.{AddOperand}
 use Rattle.operands.specs.declared.OperandKind.{OperandKind}
 use Rattle.operands.specs.declared.OperandKind.the-variants.{Words, Sums}
-use Rattle.operands.specs.declared.AddOperand.{AddOperand}
+use Rattle.operands.specs.declared.TermCell.{TermCell}
 use Rattle.operands.proofs.Every.{both, every-miss, every-end, every-at}
 
 module _ (terms : List TermCell) (n : ℕ) where

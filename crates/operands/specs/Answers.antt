@@ -7,19 +7,19 @@ use mathlib.Core.Bool.{Bool, cond, _&&_}
 use mathlib.Core.List.{List}
 use lib.Dec.{ltb, eqb}
 use lib.ListN.{length}
-use Rattle.answer.specs.declared.Answer.{Answer}
 use Rattle.answer.specs.Numbers.{accepted, refused}
+use Rattle.answer.specs.declared.Answer.{Answer}
 use Rattle.copy_row.specs.Columns.{COLUMNS}
 use Rattle.copy_residues.specs.Range.{firstLarge}
 use Rattle.operands.specs.Operands.{operandsInRow, conditionsInRow}
 use Rattle.operands.specs.Pairs.{residueLo, residueHi, carryHi}
 use Rattle.operands.specs.declared.AddOperand.{AddOperand}
-use Rattle.operands.specs.declared.PairFault.{PairFault}
-use Rattle.operands.specs.declared.PairFault.the-variants as fault
-use Rattle.operands.specs.declared.PairAnswer.{PairAnswer}
-use Rattle.operands.specs.declared.PairAnswer.the-variants as pair
 use Rattle.operands.specs.declared.CarryAnswer.{CarryAnswer}
 use Rattle.operands.specs.declared.CarryAnswer.the-variants as carry
+use Rattle.operands.specs.declared.PairAnswer.{PairAnswer}
+use Rattle.operands.specs.declared.PairAnswer.the-variants as pair
+use Rattle.operands.specs.declared.PairFault.{PairFault}
+use Rattle.operands.specs.declared.PairFault.the-variants as fault
 
 -- the first of 12, 13 and 14 that holds, given whether all columns are in the row and no sum has more than four terms
 unfoldable pub faultOf : Bool → List ℕ → PairFault

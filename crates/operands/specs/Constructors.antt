@@ -6,9 +6,9 @@ use lib.ListN.{length, take, replicate}
 use Rattle.operands.specs.Operands.{TERMS}
 use Rattle.operands.specs.declared.AddLinearTerm.{AddLinearTerm}
 use Rattle.operands.specs.declared.AddLinearTerm.the-variants.{Constant, Column}
-use Rattle.operands.specs.declared.TermCell.{TermCell}
-use Rattle.operands.specs.declared.OperandKind.the-variants.{Words, Sums}
 use Rattle.operands.specs.declared.AddOperand.{AddOperand}
+use Rattle.operands.specs.declared.OperandKind.the-variants.{Words, Sums}
+use Rattle.operands.specs.declared.TermCell.{TermCell}
 
 -- an array of four terms; the constant 0 fills the places that are not used
 unfoldable pub cells : List AddLinearTerm → List TermCell

@@ -7,14 +7,15 @@ use mathlib.Core.List.{List}
 use lib.Dec.{ltb, leb}
 use lib.IntN.{ℤ, pos, negsuc}
 use lib.ListN.{length, getD}
+use Rattle.lists.specs.Lists.{at}
 use Rattle.field.specs.Field.{p, addP, mulP}
-use Rattle.copy_row.specs.Columns.{at, COLUMNS}
+use Rattle.copy_row.specs.Columns.{COLUMNS}
 use Rattle.operands.specs.declared.AddLinearTerm.{AddLinearTerm}
 use Rattle.operands.specs.declared.AddLinearTerm.the-variants.{Constant, Column}
-use Rattle.operands.specs.declared.TermCell.{TermCell}
+use Rattle.operands.specs.declared.AddOperand.{AddOperand}
 use Rattle.operands.specs.declared.OperandKind.{OperandKind}
 use Rattle.operands.specs.declared.OperandKind.the-variants.{Words, Sums}
-use Rattle.operands.specs.declared.AddOperand.{AddOperand}
+use Rattle.operands.specs.declared.TermCell.{TermCell}
 
 -- ---- values
 

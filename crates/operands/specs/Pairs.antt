@@ -6,9 +6,9 @@ use mathlib.Core.Bool.{cond}
 use mathlib.Core.List.{List}
 use lib.Dec.{eqb}
 use lib.ListN.{length, getD}
+use Rattle.lists.specs.Lists.{at}
 use Rattle.field.specs.Field.{mulP, bitP}
 use Rattle.field.specs.Carries.{carryLow, carryHigh}
-use Rattle.copy_row.specs.Columns.{at}
 use Rattle.operands.specs.Operands.{sumP, lowValue, highValue}
 use Rattle.operands.specs.declared.AddOperand.{AddOperand}
 

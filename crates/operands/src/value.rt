@@ -17,8 +17,7 @@ ghost use lib.ListN.{length};
 ghost use Rattle.field.specs.Field.{p};
 ghost use Rattle.copy_row.specs.Columns.{COLUMNS};
 ghost use Rattle.copy_residues.specs.Cells.{Elements};
-ghost use Rattle.operands.specs.Operands.{signedP, termValue, termsValue, lowValue, highValue};
-ghost use Rattle.operands.specs.Operands.{termInRow, sumInRow, operandInRow, operandsInRow, conditionsInRow};
+ghost use Rattle.operands.specs.Operands.{signedP, termValue, termsValue, lowValue, highValue, termInRow, sumInRow, operandInRow, operandsInRow, conditionsInRow};
 ghost use Rattle.operands.specs.Pairs.{carryLo, carryHi, conditionSum, gated as gatedBy, residueLo, residueHi};
 
 // The carries c0 and c1.

@@ -8,12 +8,12 @@ use native.Mathlib.Omega.{arith}
 use lib.Dec.{eqb, leb, lit<}
 use lib.ListN.{getD}
 use borrow.Author.Tests.{eqb-true, eqb-false, eq-eqb, leb-true, not-false}
-use Rattle.records.specs.Lists.{first}
-use Rattle.records.proofs.First.{first-none}
-use Rattle.copy_row.specs.Columns.{at, TIMESTAMP, VALUE, SRC, SRC-INCR, DST, DST-INCR, COUNT, COUNT-DECR, DST-RES, FIRST, END, SINGLE, IS-SET, IS-WRITE, MU, COLUMNS}
+use Rattle.lists.specs.Lists.{first, at}
+use Rattle.lists.proofs.First.{first-none}
+use Rattle.copy_row.specs.Columns.{TIMESTAMP, VALUE, SRC, SRC-INCR, DST, DST-INCR, COUNT, COUNT-DECR, DST-RES, FIRST, END, SINGLE, IS-SET, IS-WRITE, MU, COLUMNS}
 use Rattle.copy_residues.specs.Range.{columnLimits}
-use Rattle.copy_meaning.specs.RowIff.{InRange}
 use Rattle.copy_meaning.specs.ReadRow.{TwoWords, FourHalves}
+use Rattle.copy_meaning.specs.RowIff.{InRange}
 use Rattle.copy_meaning.proofs.Columns as Ranged
 use Rattle.plain_row.specs.Tests.{caps, Fits, TailAt}
 use Rattle.plain_row.proofs.Booleans.{and-true, or-true, true-or}

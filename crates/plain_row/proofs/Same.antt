@@ -8,13 +8,14 @@ use native.Mathlib.Omega.{arith}
 use lib.Dec.{ltb}
 use lib.ListN.{length, getD}
 use borrow.Author.Tests.{ltb-true, ltb-false}
-use Rattle.copy_row.specs.Columns.{at, SRC, DST, FIRST, END, SINGLE, IS-SET, IS-WRITE, FIRST-WRITE, MU, MU-COM, MU-COM-WIDE, COLUMNS}
+use Rattle.lists.specs.Lists.{at}
+use Rattle.copy_row.specs.Columns.{SRC, DST, FIRST, END, SINGLE, IS-SET, IS-WRITE, FIRST-WRITE, MU, MU-COM, MU-COM-WIDE, COLUMNS}
 use Rattle.copy_residues.specs.Range.{columnLimits}
 use Rattle.copy_residues.specs.RowCheck.{rowFault}
 use Rattle.copy_residues.specs.declared.RowFault.the-variants.{Fine}
 use Rattle.copy_meaning.specs.RowIff.{InRange}
-use Rattle.copy_meaning.proofs.Plain.{Plain}
 use Rattle.copy_meaning.proofs.RowIff.{plain-iff}
+use Rattle.copy_meaning.proofs.Plain.{Plain}
 use Rattle.plain_row.specs.Tests.{caps, Fits, FlagsAt, MovesAt, CountsAt, ResultAt, GapAt, TailAt}
 use Rattle.plain_row.proofs.Columns.{caps-same, fits-range, single-bit, mu-bit}
 

@@ -4,8 +4,9 @@ use mathlib.Core.Path.{_≡_}
 use mathlib.Core.List.{List, _++_}
 use Prim.Native.Nat.{ℕ, _+_, _-_, _*_, _^_, _≤_, _<_}
 use lib.ListN.{getD, take, replicate}
+use Rattle.lists.specs.Lists.{at}
 use Rattle.words.specs.Words.{wrapAdd}
-use Rattle.copy_row.specs.Columns.{at, VALUE, SRC, DST, COUNT, COUNT-DECR, DST-RES, FIRST, END, SINGLE, IS-SET, IS-WRITE, FIRST-WRITE, MU, MU-COM, MU-COM-WIDE, COLUMNS}
+use Rattle.copy_row.specs.Columns.{VALUE, SRC, DST, COUNT, COUNT-DECR, DST-RES, FIRST, END, SINGLE, IS-SET, IS-WRITE, FIRST-WRITE, MU, MU-COM, MU-COM-WIDE, COLUMNS}
 use Rattle.copy_residues.specs.Range.{columnLimits}
 use Rattle.copy_meaning.specs.ReadRow.{wordsAt, halvesAt}
 

@@ -1,4 +1,3 @@
 pub mod Answers
-pub mod Filled
 pub mod Passed
 pub mod Read

@@ -4,7 +4,6 @@ use mathlib.Core.Path.{_≡_, refl, sym, ap, _∙_}
 use mathlib.Core.Bool.{Bool, true, false, cond}
 use mathlib.Core.List.{List}
 use Prim.Native.Nat.{ℕ, zero, suc, _+_, _*_, _%_, _^_, _<_}
-use Rattle.plain_row.specs.Tests.{Fits}
 use native.Mathlib.Omega.{arith}
 use borrow.Author.Tests.{leb-false}
 use lib.Dec.{eqb, leb}
@@ -14,6 +13,7 @@ use Rattle.records.proofs.Records.{record-length}
 use Rattle.copy_residues.specs.RowCheck.{rowFault}
 use Rattle.copy_residues.specs.declared.RowFault.{RowFault}
 use Rattle.copy_residues.specs.declared.RowFault.the-variants.{Fine, NotElement, OutOfRange, NotZero}
+use Rattle.plain_row.specs.Tests.{Fits}
 use Rattle.plain_row.proofs.Same.{fits-of-fine}
 use Rattle.chain.specs.Link.{Before, closed, linked, before}
 use Rattle.chain.specs.Chain.{rowsFrom, rowsOf, onFault, chainFrom, chainAnswer, chainNumbers}

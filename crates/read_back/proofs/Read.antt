@@ -6,12 +6,13 @@ use mathlib.Core.List.{List}
 use Prim.Native.Nat.{ℕ, _*_, _≤_}
 use borrow.Author.Tests.{leb-true}
 use lib.Dec.{leb}
-use Rattle.records.specs.Lists.{store}
-use Rattle.copy_row.specs.Trace.{OP-WIDTH}
+use Rattle.lists.specs.Lists.{store}
+use Rattle.call.specs.Ops.{OP-WIDTH}
+use Rattle.call.specs.Flat.{CALL-WIDTH}
 use Rattle.chain.specs.Chain.{chainAnswer, chainNumbers}
 use Rattle.chain.specs.declared.ChainAnswer as Chain
 use Rattle.chain.specs.declared.ChainAnswer.the-variants as chain
-use Rattle.read_back.specs.ReadBack.{CALL-WIDTH, opsCount, callsCount, readOps, readCalls, roomAnswer, onChain, readBackAnswer, opsAfter, callsAfter}
+use Rattle.read_back.specs.ReadBack.{opsCount, callsCount, readOps, readCalls, roomAnswer, onChain, readBackAnswer, opsAfter, callsAfter}
 use Rattle.read_back.specs.Steps.{RowsFit}
 use Rattle.read_back.specs.declared.ReadBackAnswer.{ReadBackAnswer}
 use Rattle.read_back.specs.declared.ReadBackAnswer.the-variants.{Read, GapTooLarge, NotRows, BadElement, BadRange, BadResidue, LinkBroken, NotEnded, BufferShort}

@@ -2,29 +2,22 @@
 -- chain, then 9". A call is read off its row with FIRST. Assumes nothing.
 use Prim.Native.Nat.{ℕ, _*_, _/_}
 use mathlib.Core.Bool.{Bool, cond, _&&_}
-use mathlib.Core.List.{List, [], _∷_}
+use mathlib.Core.List.{List}
 use lib.Dec.{eqb, leb}
 use lib.ListN.{length}
-use Rattle.answer.specs.declared.Answer.{Answer}
 use Rattle.answer.specs.Numbers.{accepted, refused}
-use Rattle.records.specs.Lists.{store, picked, counted}
+use Rattle.answer.specs.declared.Answer.{Answer}
+use Rattle.lists.specs.Lists.{store, picked, counted, at}
 use Rattle.records.specs.Records.{recordAt}
-use Rattle.copy_row.specs.Columns.{at, FIRST, MU, COLUMNS}
-use Rattle.copy_row.specs.Calls.{Call, opRecord}
-use Rattle.copy_row.specs.Trace.{OP-WIDTH}
+use Rattle.call.specs.Ops.{opRecord, OP-WIDTH}
+use Rattle.call.specs.Flat.{callNumbers, CALL-WIDTH}
+use Rattle.copy_row.specs.Columns.{FIRST, MU, COLUMNS}
 use Rattle.copy_meaning.specs.ReadRow.{callAt, opAt}
 use Rattle.chain.specs.Chain.{chainAnswer}
 use Rattle.chain.specs.declared.ChainAnswer as Chain
 use Rattle.chain.specs.declared.ChainAnswer.the-variants as chain
 use Rattle.read_back.specs.declared.ReadBackAnswer.{ReadBackAnswer}
 use Rattle.read_back.specs.declared.ReadBackAnswer.the-variants.{Read, GapTooLarge, NotRows, BadElement, BadRange, BadResidue, LinkBroken, NotEnded, BufferShort}
-
--- numbers in a call: kind, stamp, src, dst, count
-abbrev pub CALL-WIDTH : ℕ
-CALL-WIDTH = 5
-
-abbrev pub callNumbers : Call → List ℕ
-callNumbers c = c .kind ∷ c .stamp ∷ c .src ∷ c .dst ∷ c .count ∷ []
 
 -- row k of a list, and how many rows it has
 abbrev pub rowAt : List ℕ → ℕ → List ℕ

@@ -4,24 +4,22 @@ ghost use mathlib.Core.Path.{_≡_};
 ghost use mathlib.Core.Bool.{true};
 ghost use Prim.Native.Nat.{_+_, _*_, _^_, _≤_, _<_};
 ghost use lib.ListN.{length};
-ghost use Rattle.records.specs.Lists.{store};
+ghost use Rattle.lists.specs.Lists.{store, oneMore, placed};
+ghost use Rattle.call.specs.Ops.{opRecord, OP-WIDTH};
+ghost use Rattle.call.specs.Flat.{CALL-WIDTH, callNumbers};
 ghost use Rattle.copy_row.specs.Columns.{COLUMNS};
-ghost use Rattle.copy_row.specs.Calls.{opRecord};
-ghost use Rattle.copy_row.specs.Trace.{OP-WIDTH};
 ghost use Rattle.copy_meaning.specs.ReadRow.{callAt, opAt};
 ghost use Rattle.plain_row.specs.Tests.{Fits};
-ghost use Rattle.read_back.specs.ReadBack.{CALL-WIDTH, callNumbers, rowAt, rowsIn, opsCount, callsCount, readOps, readCalls, roomAnswer, readBackAnswer};
-ghost use Rattle.read_back.specs.Steps.{isLive, isOpening, oneMore, placed, RowsFit};
+ghost use Rattle.read_back.specs.ReadBack.{rowAt, rowsIn, opsCount, callsCount, readOps, readCalls, roomAnswer, readBackAnswer};
+ghost use Rattle.read_back.specs.Steps.{isLive, isOpening, RowsFit};
 use crate::ReadBackAnswer;
+use call::CALL_WIDTH;
+use call::OP_WIDTH;
 use chain::ChainAnswer;
 use chain::check::check;
 use copy_row::cols;
+use lists::slices::put;
 use plain_row::row::words_at;
-use records::lists::put;
-
-const OP_WIDTH: usize = 16;
-
-const CALL_WIDTH: usize = 5;
 
 // The answer for lent buffers of so many numbers.
 pub fn answer(gap: u64, rows: &[u64], ops: usize, calls: usize) -> ReadBackAnswer

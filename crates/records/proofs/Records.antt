@@ -12,10 +12,10 @@ use borrow.Author.Tests.{eq-eqb, eqb-true, leb-true, le-leb, ltb-false, le-ltb, 
 use lib.Dec.{eqb, leb, ltb}
 use lib.ListN.{length, take, drop, getD, length-take, length-drop}
 use lib.Seq.{getD-take, getD-drop}
-use Rattle.records.specs.Lists.{first}
+use Rattle.lists.specs.Lists.{first}
+use Rattle.lists.proofs.Tests.{same-test, neither}
+use Rattle.lists.proofs.First.{first-miss, first-hit, first-end, first-none, first-all}
 use Rattle.records.specs.Records.{recordCount, recordAt, firstAbove, within, firstBad}
-use Rattle.records.proofs.Tests.{same-test, neither}
-use Rattle.records.proofs.First.{first-miss, first-hit, first-end, first-none, first-all}
 
 -- Where record k lies
 

@@ -1,27 +1,48 @@
 -- Laws of tables, for every record width, row width and limit: what a made table says of its input, what each row holds, and what
 -- a loop needs that fills a table row by row. Assumes nothing.
-use mathlib.Core.Path.{_≡_, refl, sym, ap}
-use mathlib.Core.Logic.{_≢_}
+use mathlib.Core.Path.{_≡_, refl, sym, ap, _∙_}
+use mathlib.Core.Logic.{_≢_, ⊎-elim}
 use mathlib.Core.Bool.{Bool, true, false, cond}
-use mathlib.Core.List.{List, [], _∷_, _++_}
-use Prim.Native.Nat.{ℕ, _+_, _-_, _*_, _≤_, _<_}
+use mathlib.Core.List.{List, [], _∷_, _++_, append-assoc}
+use Prim.Native.Nat.{ℕ, _+_, _-_, _*_, _≤_, _<_, zero, suc}
 use native.Mathlib.Omega.{arith}
 use denote.Enum.Declared.{tagOf}
 use types.Run.{OneOf, miss}
 use borrow.Author.Tests.{lt-ltb, le-ltb, le-leb, lt-leb, leb-true, ltb-true, ltb-false}
 use lib.Dec.{ltb, leb}
 use lib.ListN.{length, take, drop}
+use native.Mathlib.Nat.{eq-or-lt-of-le, le-of-suc-le-suc}
+use lib.Seq.{take-at, drop-at}
 use Rattle.answer.proofs.Parts.{number-same, place-same, value-same}
-use Rattle.records.specs.declared.TableAnswer.{TableAnswer}
-use Rattle.records.specs.declared.TableAnswer.the-variants.{Made, TooManyRecords, BadRecord, BufferShort}
-use Rattle.records.specs.Lists.{store, flat}
+use Rattle.lists.specs.Lists.{store, flat}
+use Rattle.lists.proofs.Store.{length-store, store-eq}
+use Rattle.lists.proofs.Flat.{flat-length, flat-placed}
 use Rattle.records.specs.Records.{recordCount, recordAt, firstBad}
 use Rattle.records.specs.RowCount.{rowCount}
 use Rattle.records.specs.Table.{tableAnswer, rowAt, tableAfter, tableNumbers}
-use Rattle.records.proofs.TableAnswer.{the-type}
-use Rattle.records.proofs.Store.{length-store}
-use Rattle.records.proofs.Flat.{flat-row, flat-placed}
+use Rattle.records.specs.declared.TableAnswer.{TableAnswer}
+use Rattle.records.specs.declared.TableAnswer.the-variants.{Made, TooManyRecords, BadRecord, BufferShort}
 use Rattle.records.proofs.Records.{all-good}
+use Rattle.records.proofs.TableAnswer.{the-type}
+
+-- Rows one behind the other
+
+module _ (v : ℕ) (g : ℕ → List ℕ) (h : (j : ℕ) → length (g j) ≡ v) where
+  row-before : (n k : ℕ) (s : List ℕ) → k < n → take v (drop (v * k) (flat g n ++ s)) ≡ g k
+  unfolding flat
+  row-before zero k s z = absurd (omega arith)
+  row-before (suc n) k s z =
+      rw append-assoc
+      (⊎-elim
+      (λ (q : k ≡ n). rw (q, drop-at (flat g n) (g n ++ s) (v * n) (flat-length v g n (λ j _. h j))) (take-at (g n) s v (h n)))
+      (λ (l : k < n). row-before n k (g n ++ s) l)
+      (eq-or-lt-of-le (le-of-suc-le-suc z)))
+
+  -- row k of n rows of v numbers is what was written there
+  pub flat-row : (l : List ℕ) (n k : ℕ) → v * n ≤ length l → k < n → recordAt v (store l 0 (flat g n)) k ≡ g k
+  flat-row l n k fits z =
+      let e : length (flat g n) ≡ v * n = flat-length v g n (λ j _. h j) in
+      ap (λ (t : List ℕ). take v (drop (v * k) t)) (store-eq l 0 (flat g n) (omega arith)) ∙ row-before n k _ z
 
 -- The answer
 

@@ -5,7 +5,7 @@ use mathlib.Core.Bool.{Bool, not, _&&_}
 use mathlib.Core.List.{List}
 use lib.Dec.{eqb, leb}
 use lib.ListN.{length, take, drop, getD}
-use Rattle.records.specs.Lists.{first}
+use Rattle.lists.specs.Lists.{first}
 
 -- how many records a list has, a cut last one counted
 abbrev pub recordCount : ℕ → List ℕ → ℕ

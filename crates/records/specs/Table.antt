@@ -5,9 +5,9 @@ use Prim.Native.Nat.{ℕ, _*_}
 use mathlib.Core.Bool.{cond}
 use mathlib.Core.List.{List}
 use lib.Dec.{ltb, leb}
-use Rattle.answer.specs.declared.Answer.{Answer}
 use Rattle.answer.specs.Numbers.{accepted, refused}
-use Rattle.records.specs.Lists.{store, flat}
+use Rattle.answer.specs.declared.Answer.{Answer}
+use Rattle.lists.specs.Lists.{store, flat}
 use Rattle.records.specs.Records.{recordCount, recordAt}
 use Rattle.records.specs.RowCount.{rowCount}
 use Rattle.records.specs.declared.TableAnswer.{TableAnswer}

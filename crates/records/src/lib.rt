@@ -3,7 +3,7 @@ use answer::Answer;
 ghost use mathlib.Core.Path.{_≡_};
 ghost use Rattle.records.specs.Table.{tableNumbers};
 
-pub mod lists;
+pub mod tables;
 
 // One case for each answer that a table maker can give. Document 01: tables refuse with "8, 10, 11, 9"; 11 is routing's alone.
 pub enum TableAnswer {

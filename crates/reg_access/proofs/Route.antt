@@ -8,8 +8,7 @@ use native.Mathlib.Omega.{arith}
 use borrow.Author.Tests.{eq-eqb}
 use lib.Dec.{eqb}
 use lib.ListN.{replicate}
-use Rattle.records.specs.Lists.{first}
-use Rattle.copy_row.specs.Columns.{at}
+use Rattle.lists.specs.Lists.{first, at}
 use Rattle.access.specs.Access.{BASE-ADDRESS, ACCESS-WIDTH}
 use Rattle.classify.specs.Classify.{lowWord, deltaInRange, isRegisterOp, stampsAgree, isAlignedOp, classify}
 use Rattle.classify.specs.RouteRecord.{addressFits}

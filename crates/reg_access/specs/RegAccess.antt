@@ -7,19 +7,19 @@ use mathlib.Core.List.{List, _++_}
 use Prim.Native.Nat.{ℕ, _%_}
 use lib.Dec.{eqb}
 use lib.ListN.{replicate}
-use Rattle.answer.specs.declared.Answer.{Answer}
 use Rattle.answer.specs.Numbers.{accepted, refused}
-use Rattle.copy_row.specs.Columns.{at}
-use Rattle.copy_row.specs.Rows.{bit}
+use Rattle.answer.specs.declared.Answer.{Answer}
+use Rattle.lists.specs.Lists.{at}
+use Rattle.words.specs.Words.{bit}
 use Rattle.access.specs.Access.{BASE-ADDRESS, ACCESS-WIDTH, accessRecord}
 use Rattle.access.specs.RegisterAccess.{registerAccess}
 use Rattle.classify.specs.Classify.{lowWord, deltaInRange, classify, routeNumber}
 use Rattle.classify.specs.RouteRecord.{registerRecord, addressFits}
 use Rattle.classify.specs.declared.MemwRoute.{MemwRoute}
 use Rattle.classify.specs.declared.MemwRoute.the-variants.{Register, Aligned, General}
+use Rattle.reg_access.specs.declared.RegAccess.{RegAccess}
 use Rattle.reg_access.specs.declared.RegAccessAnswer.{RegAccessAnswer}
 use Rattle.reg_access.specs.declared.RegAccessAnswer.the-variants.{Pushed, BadAddress}
-use Rattle.reg_access.specs.declared.RegAccess.{RegAccess}
 
 -- the access record of the six inputs, as `build_reg_fallback` builds it
 unfoldable pub built : ℕ → List ℕ → List ℕ → ℕ → ℕ → Bool → List ℕ

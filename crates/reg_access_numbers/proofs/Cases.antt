@@ -5,11 +5,11 @@ use Prim.Native.Nat.{ℕ, _≤_, _<_}
 use native.Mathlib.Omega.{arith}
 use borrow.Author.Tests.{eq-eqb, ne-eqb, lt-ltb, le-ltb}
 use lib.ListN.{take, drop}
-use Rattle.answer.specs.declared.Answer.{Answer}
 use Rattle.answer.specs.Numbers.{refused}
+use Rattle.answer.specs.declared.Answer.{Answer}
 use Rattle.answer.proofs.Parts.{number-same, value-same}
-use Rattle.reg_access.specs.declared.RegAccess.{RegAccess}
 use Rattle.reg_access.specs.RegAccess.{pushNumbers}
+use Rattle.reg_access.specs.declared.RegAccess.{RegAccess}
 use Rattle.reg_access_numbers.specs.RegAccessNumbers.{accessAnswer, recordOver, recordAfter}
 
 module _ (isRead : ℕ) (a : RegAccess) (lent : List ℕ) where

@@ -5,11 +5,11 @@ use mathlib.Core.Bool.{cond}
 use mathlib.Core.List.{List, _++_}
 use lib.Dec.{eqb, ltb}
 use lib.ListN.{take, drop}
-use Rattle.answer.specs.declared.Answer.{Answer}
 use Rattle.answer.specs.Numbers.{refused}
+use Rattle.answer.specs.declared.Answer.{Answer}
 use Rattle.classify.specs.RouteRecord.{REGISTER-WIDTH}
-use Rattle.reg_access.specs.declared.RegAccess.{RegAccess}
 use Rattle.reg_access.specs.RegAccess.{pushNumbers}
+use Rattle.reg_access.specs.declared.RegAccess.{RegAccess}
 
 -- the answer; the value is the route's number
 unfoldable pub accessAnswer : ℕ → RegAccess → Answer

@@ -1,7 +1,7 @@
 // `push_reg_access` for callers that have numbers and slices only. Numbers past the route's record keep their values. Assumes nothing.
 use answer::Answer;
 use answer::refuse;
-use records::lists::put;
+use lists::slices::put;
 ghost use mathlib.Core.Path.{_≡_};
 ghost use mathlib.Core.List.{[], _∷_, _++_};
 ghost use lib.Dec.{eqb};

@@ -4,14 +4,15 @@ use mathlib.Core.List.{List}
 use Prim.Native.Nat.{ℕ, _-_, _^_, _≤_, _<_}
 use native.Mathlib.Omega.{arith}
 use borrow.Author.Tests.{eq-eqb, ne-eqb, lt-ltb, le-ltb}
-use Rattle.answer.specs.declared.Answer.{Answer}
 use Rattle.answer.specs.Numbers.{refused}
+use Rattle.answer.specs.declared.Answer.{Answer}
 use Rattle.answer.proofs.Parts.{number-same}
-use Rattle.copy_row.specs.Columns.{at}
-use Rattle.copy_row.specs.declared.Functionality.{Functionality}
-use Rattle.registers.specs.declared.RegisterState.{RegisterState}
+use Rattle.lists.specs.Lists.{at}
+use Rattle.call.specs.Calls.{kindOf}
+use Rattle.call.specs.declared.Functionality.{Functionality}
 use Rattle.registers.specs.Step.{registerStep, stepNumbers}
-use Rattle.register_numbers.specs.RegisterNumbers.{INDEX, kindOf, stateOf, stateNumbers, flatStep, flatAnswer, stateAfter, recordsAfter}
+use Rattle.registers.specs.declared.RegisterState.{RegisterState}
+use Rattle.register_numbers.specs.RegisterNumbers.{INDEX, stateOf, stateNumbers, flatStep, flatAnswer, stateAfter, recordsAfter}
 
 module _ (kind stamp src dst count : ℕ) (l : List ℕ) where
   pub kind-refused : 2 < kind → flatAnswer kind stamp src dst count l ≡ refused 10 0

@@ -4,8 +4,8 @@ use mathlib.Core.List.{List, _++_}
 use Prim.Native.Nat.{ℕ}
 use native.Mathlib.Omega.{arith}
 use lib.ListN.{length, take, drop, length-append}
-use Rattle.records.specs.Lists.{store}
-use Rattle.records.proofs.Store.{length-store, store-all}
+use Rattle.lists.specs.Lists.{store}
+use Rattle.lists.proofs.Store.{length-store, store-all}
 use Rattle.registers.proofs.FourRecords.{behind, placed}
 
 -- the list after each of the three is t1, t2, t3

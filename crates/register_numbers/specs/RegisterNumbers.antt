@@ -5,22 +5,17 @@ use mathlib.Core.Bool.{Bool, cond, _||_}
 use mathlib.Core.List.{List, [], _∷_, _++_}
 use lib.Dec.{eqb, ltb}
 use lib.ListN.{take, drop}
-use Rattle.answer.specs.declared.Answer.{Answer}
 use Rattle.answer.specs.Numbers.{refused}
-use Rattle.copy_row.specs.Columns.{at}
-use Rattle.copy_row.specs.declared.Functionality.{Functionality}
-use Rattle.copy_row.specs.declared.Functionality.the-variants.{Copy, Set, Write}
+use Rattle.answer.specs.declared.Answer.{Answer}
+use Rattle.lists.specs.Lists.{at}
+use Rattle.call.specs.Calls.{kindOf}
+use Rattle.registers.specs.Step.{registerStep, stepNumbers}
 use Rattle.registers.specs.declared.RegisterState.{RegisterState}
 use Rattle.registers.specs.declared.RegisterStep.{RegisterStep}
-use Rattle.registers.specs.Step.{registerStep, stepNumbers}
 
 -- where the commit index stands among the 68 numbers
 abbrev pub INDEX : ℕ
 INDEX = 64
-
--- the kind of a number that is at most 2
-abbrev pub kindOf : ℕ → Functionality
-kindOf k = cond (eqb k 0) Copy (cond (eqb k 1) Set Write)
 
 -- 68 numbers as a state: 32 values, 32 stamps, then index, index stamp, program counter and its stamp
 abbrev pub stateOf : List ℕ → RegisterState

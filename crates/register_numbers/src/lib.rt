@@ -3,17 +3,17 @@
 use answer::Answer;
 use answer::accept;
 use answer::refuse;
-use copy_row::Functionality;
-use records::lists::put;
+use call::kind_of;
+use lists::slices::put;
 use registers::RegisterState;
 ghost use mathlib.Core.Path.{_≡_};
 ghost use mathlib.Core.List.{_++_};
 ghost use Prim.Native.Nat.{_+_, _^_, _≤_, _<_};
 ghost use lib.ListN.{length, take, drop};
 ghost use Rattle.answer.specs.Numbers.{accepted};
-ghost use Rattle.copy_row.specs.Columns.{at};
+ghost use Rattle.lists.specs.Lists.{at};
 ghost use Rattle.registers.specs.Step.{newState};
-ghost use Rattle.register_numbers.specs.RegisterNumbers.{INDEX, kindOf, stateOf, stateNumbers, flatAnswer, stateAfter, recordsAfter};
+ghost use Rattle.register_numbers.specs.RegisterNumbers.{INDEX, stateOf, stateNumbers, flatAnswer, stateAfter, recordsAfter};
 
 // The state in which a program starts.
 pub fn new_register_state(entry_point: u64, stack_top: u64, state: &mut [u64; 68]) -> Answer
@@ -63,19 +63,6 @@ pub fn collect_copy_register_ops(
     let list = step.records;
     *records = list;
     answer
-}
-
-// The kind of a number.
-pub fn kind_of(kind: u64) -> Functionality
-    ensures { λ r. ⌜ r ≡ kindOf kind ⌝ }
-{
-    if kind == 0 {
-        return Functionality::Copy;
-    }
-    if kind == 1 {
-        return Functionality::Set;
-    }
-    Functionality::Write
 }
 
 // The state of 68 numbers.

@@ -5,8 +5,8 @@ use mathlib.Core.List.{List, _++_}
 use Prim.Native.Nat.{ℕ, _+_, _≤_}
 use native.Mathlib.Omega.{arith}
 use lib.ListN.{length, take, drop, length-append}
-use Rattle.records.specs.Lists.{store}
-use Rattle.records.proofs.Store.{length-store, store-append, store-all, part-store}
+use Rattle.lists.specs.Lists.{store}
+use Rattle.lists.proofs.Store.{length-store, store-append, store-all, part-store}
 
 -- what is stored behind xs is stored with xs
 pub behind : (l xs ys : List ℕ) (i j : ℕ) → j ≡ i + length xs → store (store l i xs) j ys ≡ store l i (xs ++ ys)

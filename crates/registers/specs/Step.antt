@@ -7,18 +7,18 @@ use mathlib.Core.Bool.{cond, not}
 use mathlib.Core.List.{List, _++_}
 use lib.Dec.{eqb, ltb}
 use lib.ListN.{set, replicate}
-use Rattle.answer.specs.declared.Answer.{Answer}
 use Rattle.answer.specs.Numbers.{accepted, refused}
+use Rattle.answer.specs.declared.Answer.{Answer}
+use Rattle.lists.specs.Lists.{at}
 use Rattle.words.specs.Words.{words}
-use Rattle.copy_row.specs.Columns.{at}
-use Rattle.copy_row.specs.declared.Functionality.{Functionality}
-use Rattle.copy_row.specs.declared.Functionality.the-variants.{Copy, Set, Write}
+use Rattle.call.specs.declared.Functionality.{Functionality}
+use Rattle.call.specs.declared.Functionality.the-variants.{Copy, Set, Write}
 use Rattle.access.specs.Access.{ACCESS-WIDTH, accessRecord}
 use Rattle.access.specs.RegisterAccess.{registerAccess}
 use Rattle.registers.specs.declared.RegisterState.{RegisterState}
+use Rattle.registers.specs.declared.RegisterStep.{RegisterStep}
 use Rattle.registers.specs.declared.StepAnswer.{StepAnswer}
 use Rattle.registers.specs.declared.StepAnswer.the-variants.{Stepped, NotCommitIndex, PastIndex, NotStdout}
-use Rattle.registers.specs.declared.RegisterStep.{RegisterStep}
 
 -- The state
 

@@ -2,8 +2,8 @@
 // has an answer. Assumes nothing.
 use access::register_access;
 use answer::Answer;
-use copy_row::Functionality;
-use records::lists::put;
+use call::Functionality;
+use lists::slices::put;
 use words::words;
 ghost use mathlib.Core.Path.{_≡_};
 ghost use mathlib.Core.List.{_++_};

@@ -1,6 +1,7 @@
 // Replays recorded questions on the access tables through the exported functions. A question is the function's number and its parameters, a
 // list as its length and its numbers; the answer's three numbers are printed, then each lent list afterwards. The file stdout has the
 // oracle's answers.
+use answer::Answer;
 ghost use lib.ListN.{length};
 ghost use Prim.Native.Nat.{_≤_, _<_};
 
@@ -162,7 +163,7 @@ fn push(inputs: &[u64], before: &[u64]) {
     }
     let mut access = [0u64; 29];
     replay::load(before, &mut access);
-    let answer = exports::push_reg_access(
+    let answer: Answer = exports::push_reg_access(
         inputs[0],
         word(inputs[1]),
         word(inputs[2]),
@@ -218,7 +219,7 @@ fn step(call: &[u64], before: &[u64], records_before: &[u64]) {
     replay::load(before, &mut state);
     let mut records = [0u64; 116];
     replay::load(records_before, &mut records);
-    let answer = exports::collect_copy_register_ops(
+    let answer: Answer = exports::collect_copy_register_ops(
         call[0],
         call[1],
         call[2],

@@ -1,6 +1,7 @@
 // Replays recorded questions on the chain check and read-back through the exported functions. A question is the function's number and its
 // parameters, a list as its length and its numbers; the answer's three numbers are printed, then each lent list afterwards. The file
 // stdout has the oracle's answers.
+use answer::Answer;
 ghost use lib.ListN.{length};
 ghost use Prim.Native.Nat.{_≤_, _<_};
 
@@ -15,7 +16,8 @@ fn ask_check(numbers: &[u64], at: usize) -> usize
         return numbers.len();
     }
     let rows_end = replay::after_list(numbers, rows);
-    replay::print_answer(exports::chain_check(gap, &numbers[rows + 1..rows_end]));
+    let answer: Answer = exports::chain_check(gap, &numbers[rows + 1..rows_end]);
+    replay::print_answer(answer);
     rows_end
 }
 

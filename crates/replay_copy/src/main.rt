@@ -1,11 +1,13 @@
 // Replays recorded questions on the copy table through the exported functions. A question is the function's number and its parameters, a
 // list as its length and its numbers; the answer's three numbers are printed, then each lent list afterwards. The file stdout has the
 // oracle's answers.
+use answer::Answer;
 ghost use lib.ListN.{length};
 ghost use Prim.Native.Nat.{_≤_, _<_};
 
 fn trace(ops: &[u64], table: &mut [u64]) {
-    replay::print_answer(exports::generate_copy_trace(ops, table));
+    let answer: Answer = exports::generate_copy_trace(ops, table);
+    replay::print_answer(answer);
     replay::print_list(table);
 }
 

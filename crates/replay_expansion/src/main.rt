@@ -1,6 +1,7 @@
 // Replays recorded calls of the expansion through the exported function. A question is the function's number and its parameters, a list
 // as its length and its numbers; the answer's three numbers are printed, then each lent list afterwards. The file stdout has the
 // oracle's answers.
+use answer::Answer;
 ghost use lib.ListN.{length};
 ghost use Prim.Native.Nat.{_≤_, _<_};
 
@@ -21,7 +22,7 @@ fn expand(
     }
     let mut counts = [0u64; 2];
     replay::load(before, &mut counts);
-    let answer = exports::collect_copy_ops(
+    let answer: Answer = exports::collect_copy_ops(
         call[0],
         call[1],
         call[2],

@@ -12,16 +12,18 @@ use lib.Dec.{ltb, eqb}
 use lib.ListN.{length, take}
 use lib.Seq.{take-at}
 use types.Run.{OneOf, miss}
-use Rattle.records.specs.Lists.{store}
+use Rattle.lists.specs.Lists.{store}
+use Rattle.lists.proofs.Store.{length-store, store-eq}
 use Rattle.records.specs.RowCount.{rowCount}
 use Rattle.records.specs.declared.TableAnswer.{TableAnswer}
 use Rattle.records.specs.declared.TableAnswer.the-variants.{Made}
-use Rattle.records.proofs.Store.{length-store, store-eq}
-use Rattle.copy_row.specs.Columns.{COLUMNS}
-use Rattle.copy_row.specs.Trace.{OP-WIDTH, copyAnswer, copyAfter}
-use Rattle.copy_row.proofs.CopyTable.{made-facts, after-length}
+use Rattle.call.specs.Ops.{OP-WIDTH}
+use Rattle.call.specs.Flat.{CALL-WIDTH}
 use Rattle.expansion.specs.Expansion.{Lent}
-use Rattle.read_back.specs.ReadBack.{CALL-WIDTH, readBackAnswer, opsAfter, callsAfter}
+use Rattle.copy_row.specs.Columns.{COLUMNS}
+use Rattle.copy_row.specs.Trace.{copyAnswer, copyAfter}
+use Rattle.copy_row.proofs.CopyTable.{made-facts, after-length}
+use Rattle.read_back.specs.ReadBack.{readBackAnswer, opsAfter, callsAfter}
 use Rattle.read_back.specs.declared.ReadBackAnswer.{ReadBackAnswer}
 use Rattle.call_list.specs.CallList.{callsIn, allExpanded}
 use Rattle.call_list.proofs.Counted.{records-fit}
@@ -30,8 +32,8 @@ use Rattle.round_trip.specs.Legs.{decided, Ran}
 use Rattle.round_trip.specs.RoundTrip.{TypedTrip}
 use Rattle.round_trip.specs.declared.RoundTripAnswer.{RoundTripAnswer}
 use Rattle.round_trip.specs.declared.RoundTripAnswer.the-variants.{Passed, TooManyRecords, BufferShort}
-use Rattle.round_trip.proofs.RoundTripAnswer.{the-type}
 use Rattle.round_trip.proofs.Whole.{records-length, decidedOf, made, decided-is}
+use Rattle.round_trip.proofs.RoundTripAnswer.{the-type}
 
 -- `decide`
 

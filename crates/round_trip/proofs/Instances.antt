@@ -4,28 +4,28 @@ use mathlib.Core.List.{List, [], _∷_, flatMap}
 use Prim.Native.Nat.{ℕ, zero, suc, _^_, _<_}
 use native.Mathlib.Omega.{arith}
 use lib.ListN.{getD, replicate}
+use Rattle.lists.specs.Lists.{store, flat, picked, counted, first, All}
 use Rattle.field.specs.Field.{addP, subP, mulP, bitP}
 use Rattle.field.specs.Carries.{carryP, carryLow, carryHigh}
-use Rattle.records.specs.Lists.{store, flat, picked, counted, first}
 use Rattle.records.specs.Records.{firstAbove, within, firstBad}
 use Rattle.records.specs.RowCount.{doubled, rowCount}
 use Rattle.records.specs.Table.{tableAnswer, rowAt, tableAfter}
-use Rattle.copy_row.specs.Rows.{rowOf, paddingRow}
-use Rattle.copy_row.specs.Trace.{opLimits, copyAnswer, copyAfter}
-use Rattle.copy_residues.specs.Range.{columnLimits, firstLarge, firstOut}
-use Rattle.copy_residues.specs.Residues.{halvesWord, step, incrLow, incrHigh, decrLow, decrHigh, resLow, resHigh, gapLow, gapHigh, borrow, impliesMu, oneHot, firstWrite, gatedBit, dstResNonWrite, singleLane, borrowImplies, borrowImpliesZero, endImplies, muComIs, muComWideIs, noWrap, gapNoWrap, residue}
-use Rattle.copy_residues.specs.RowCheck.{firstResidue, rowFault}
-use Rattle.copy_meaning.specs.Steps.{All}
-use Rattle.chain.specs.Link.{same, linked, before}
-use Rattle.chain.specs.Chain.{rowsFrom, chainFrom, chainAnswer}
+use Rattle.call.specs.Ops.{opLimits}
 use Rattle.window.specs.Window.{cellsAt, writeBytes, writeStamps}
 use Rattle.expansion_rows.specs.Rows as call
 use Rattle.expansion_rows.specs.Rows.{copyRowWidth, rowsWithin}
 use Rattle.expansion_rows.specs.Turns.{turnBytes, turnStamps, turnAccesses, rowOps, passBytes, passStamps, passAccesses}
 use Rattle.expansion_rows.specs.Held.{heldAllBytes, heldAllStamps, heldAccesses}
+use Rattle.expansion_cut.specs.Pieces.{Bytes}
 use Rattle.expansion.specs.Refusals.{refusals, expansionAnswer}
 use Rattle.expansion.specs.Expansion.{callOps, callBytes, callStamps, callAccesses, expanded, lentAfter}
-use Rattle.expansion_cut.specs.Pieces.{Bytes}
+use Rattle.copy_row.specs.Rows.{rowOf, paddingRow}
+use Rattle.copy_row.specs.Trace.{copyAnswer, copyAfter}
+use Rattle.copy_residues.specs.Range.{columnLimits, firstLarge, firstOut}
+use Rattle.copy_residues.specs.Residues.{halvesWord, step, incrLow, incrHigh, decrLow, decrHigh, resLow, resHigh, gapLow, gapHigh, borrow, impliesMu, oneHot, firstWrite, gatedBit, dstResNonWrite, singleLane, borrowImplies, borrowImpliesZero, endImplies, muComIs, muComWideIs, noWrap, gapNoWrap, residue}
+use Rattle.copy_residues.specs.RowCheck.{firstResidue, rowFault}
+use Rattle.chain.specs.Link.{same, linked, before}
+use Rattle.chain.specs.Chain.{rowsFrom, chainFrom, chainAnswer}
 use Rattle.read_back.specs.ReadBack.{opsCount, callsCount, readOps, readCalls, roomAnswer, readBackAnswer, callsAfter}
 use Rattle.call_list.specs.CallList.{callsFrom, callsIn, handed, leaves, next, triesOf}
 use Rattle.round_trip.specs.Trip.{tripNumbers, callsBackAfter}

@@ -12,26 +12,27 @@ use borrow.Author.Tests.{lt-ltb, le-ltb, le-leb, lt-leb, ltb-true, ltb-false, le
 use lib.Dec.{ltb, leb}
 use lib.ListN.{length}
 use Rattle.answer.specs.Numbers.{accepted, refused}
-use Rattle.records.specs.Lists.{store}
+use Rattle.lists.specs.Lists.{store, All}
 use Rattle.records.specs.RowCount.{rowCount}
 use Rattle.records.specs.declared.TableAnswer.{TableAnswer}
 use Rattle.records.specs.declared.TableAnswer.the-variants as table
+use Rattle.call.specs.Ops.{opRecord, OP-WIDTH}
+use Rattle.call.specs.Flat.{CALL-WIDTH}
+use Rattle.call.specs.Cuts.{CutCall, opsOf}
 use Rattle.copy_row.specs.Columns.{COLUMNS}
-use Rattle.copy_row.specs.Calls.{opRecord}
-use Rattle.copy_row.specs.Trace.{OP-WIDTH, copyAnswer}
-use Rattle.copy_meaning.specs.Steps.{All, LiveStep}
-use Rattle.calls.specs.Cuts.{CutCall, opsOf}
+use Rattle.copy_row.specs.Trace.{copyAnswer}
+use Rattle.copy_meaning.specs.Steps.{LiveStep}
 use Rattle.calls.proofs.Chained.{chain}
-use Rattle.read_back.specs.ReadBack.{CALL-WIDTH, opsAfter, callsAfter}
+use Rattle.read_back.specs.ReadBack.{opsAfter, callsAfter}
 use Rattle.read_back.specs.declared.ReadBackAnswer.{ReadBackAnswer}
 use Rattle.read_back.specs.declared.ReadBackAnswer.the-variants as read
 use Rattle.demand.specs.Demand as demand
 use Rattle.demand.specs.Demand.{Typed, Passes, ReadsBack}
-use Rattle.demand.proofs.Demand.{demand3}
-use Rattle.demand.proofs.Whole.{steps}
 use Rattle.demand.proofs.RowLists.{flatMap-length}
+use Rattle.demand.proofs.Whole.{steps}
 use Rattle.demand.proofs.GoodRecords.{records-wide, maker-answer}
 use Rattle.demand.proofs.Accepted.{cutTry, tries-fit, tries-wrote}
+use Rattle.demand.proofs.Demand.{demand3}
 use Rattle.call_list.specs.CallList.{callsIn}
 use Rattle.call_list.proofs.Counted as counted
 use Rattle.call_list.proofs.Typed.{calls-wide, tries-typed}

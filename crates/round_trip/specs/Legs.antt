@@ -6,10 +6,11 @@ use mathlib.Core.List.{List}
 use Prim.Native.Nat.{ℕ, _*_}
 use lib.Dec.{ltb}
 use Rattle.records.specs.RowCount.{rowCount}
-use Rattle.copy_row.specs.Columns.{COLUMNS}
-use Rattle.copy_row.specs.Trace.{OP-WIDTH}
+use Rattle.call.specs.Ops.{OP-WIDTH}
+use Rattle.call.specs.Flat.{CALL-WIDTH}
 use Rattle.expansion.specs.Expansion.{Lent}
-use Rattle.read_back.specs.ReadBack.{CALL-WIDTH, opsAfter, callsAfter}
+use Rattle.copy_row.specs.Columns.{COLUMNS}
+use Rattle.read_back.specs.ReadBack.{opsAfter, callsAfter}
 use Rattle.call_list.specs.CallList.{callsIn, allExpanded}
 use Rattle.round_trip.specs.Trip.{Trip, tableMade, written, reader}
 use Rattle.round_trip.specs.declared.RoundTripAnswer.{RoundTripAnswer}

@@ -4,12 +4,12 @@ use mathlib.Core.Path.{_≡_}
 use mathlib.Core.Logic.{_⊎_, _↔_}
 use Prim.Native.Nat.{ℕ, _*_, _/_, _^_, _≤_, _<_}
 use lib.ListN.{length, getD}
-use Rattle.records.specs.Lists.{store}
+use Rattle.lists.specs.Lists.{store}
 use Rattle.records.specs.RowCount.{rowCount}
-use Rattle.copy_row.specs.Columns.{COLUMNS}
-use Rattle.copy_row.specs.Trace.{OP-WIDTH}
+use Rattle.call.specs.Ops.{OP-WIDTH}
+use Rattle.call.specs.Flat.{CALL-WIDTH}
 use Rattle.expansion_cut.specs.Pieces.{Bytes}
-use Rattle.read_back.specs.ReadBack.{CALL-WIDTH}
+use Rattle.copy_row.specs.Columns.{COLUMNS}
 use Rattle.demand.specs.Demand.{Passes}
 use Rattle.round_trip.specs.Trip.{Trip, recordsIn, callsHanded, written, tripNumbers, opsBackAfter, callsBackAfter}
 

@@ -3,17 +3,17 @@
 ghost use mathlib.Core.Path.{_≡_};
 ghost use Prim.Native.Nat.{_*_, _^_, _<_};
 ghost use lib.ListN.{length};
-ghost use Rattle.copy_row.specs.Trace.{OP-WIDTH};
-ghost use Rattle.expansion.specs.Expansion.{lent};
-ghost use Rattle.read_back.specs.ReadBack.{CALL-WIDTH};
 ghost use Rattle.records.specs.declared.TableAnswer.the-variants.{Made};
+ghost use Rattle.call.specs.Ops.{OP-WIDTH};
+ghost use Rattle.call.specs.Flat.{CALL-WIDTH};
+ghost use Rattle.expansion.specs.Expansion.{lent};
 ghost use Rattle.round_trip.specs.Trip.{tripOf, recordsIn, maker};
 ghost use Rattle.round_trip.specs.Legs.{decided, Ran};
 use crate::RoundTripAnswer;
 use call_list::turns::expand_all;
 use copy_row::generate_copy_trace;
 use read_back::read_back;
-use records::lists::row_count;
+use records::tables::row_count;
 
 // The answer for `n` records and `m` calls: 8 and 9 of the maker, and 9 of read-back.
 pub fn decide(

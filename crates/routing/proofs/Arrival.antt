@@ -8,10 +8,10 @@ use native.Mathlib.Numerals.{add-one}
 use native.Mathlib.Omega.{arith}
 use lib.ListN.{length, take, drop, length-append}
 use lib.Seq.{take-at}
-use Rattle.records.specs.Lists.{store, flat, picked, counted}
+use Rattle.lists.specs.Lists.{store, flat, picked, counted}
+use Rattle.lists.proofs.Store.{store-eq}
+use Rattle.words.specs.Words.{bit}
 use Rattle.records.specs.Records.{recordCount, recordAt}
-use Rattle.records.proofs.Store.{store-eq}
-use Rattle.copy_row.specs.Rows.{bit}
 use Rattle.access.specs.Access.{ACCESS-WIDTH}
 use Rattle.classify.specs.Classify.{classify}
 use Rattle.classify.specs.RouteRecord.{routeRecord, routeWidth}

@@ -7,10 +7,9 @@ use Prim.Native.Nat.{ℕ, _-_, _*_, _≤_, _<_}
 use native.Mathlib.Omega.{arith}
 use borrow.Author.Tests.{lt-ltb, le-ltb, ltb-false, leb-true}
 use lib.Dec.{ltb, leb}
-use Rattle.records.specs.Lists.{store, first}
+use Rattle.lists.specs.Lists.{store, first, at}
 use Rattle.records.specs.Records.{recordCount, recordAt}
 use Rattle.records.proofs.Records.{badAt, all-good, bad-stop, bad-end}
-use Rattle.copy_row.specs.Columns.{at}
 use Rattle.access.specs.Access.{BASE-ADDRESS, ACCESS-WIDTH, goodAccess}
 use Rattle.classify.specs.Classify.{classify}
 use Rattle.classify.specs.RouteRecord.{routeWidth, addressFits}
@@ -20,9 +19,9 @@ use Rattle.routing.specs.Routing.{routedOf, countOf, routable, firstRefu
 use Rattle.routing.specs.Steps.{verdictOf, judged, Holds}
 use Rattle.routing.specs.declared.RouteAnswer.{RouteAnswer}
 use Rattle.routing.specs.declared.RouteAnswer.the-variants.{Routed, TooManyRecords, BadRecord, BadAddress, BufferShort}
+use Rattle.routing.specs.declared.split.Verdict.{Verdict}
+use Rattle.routing.specs.declared.split.Verdict.the-variants.{Goes, Malformed, Misplaced}
 use Rattle.routing.proofs.Routes.{count-le}
-use Rattle.routing.specs.declared.lists.Verdict.{Verdict}
-use Rattle.routing.specs.declared.lists.Verdict.the-variants.{Goes, Malformed, Misplaced}
 
 -- One record
 

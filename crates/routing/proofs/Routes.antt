@@ -8,11 +8,11 @@ use native.Mathlib.Nat.{add-zero}
 use native.Mathlib.Omega.{arith}
 use borrow.Author.Tests.{eq-eqb}
 use lib.ListN.{length, take, drop}
-use Rattle.records.specs.Lists.{store}
+use Rattle.lists.specs.Lists.{store}
+use Rattle.lists.proofs.Store.{store-none, length-store, store-append, part-store}
+use Rattle.lists.proofs.Flat.{picked-none, picked-yes, picked-no, picked-length, counted-none, counted-more, counted-yes, counted-le, counted-mono, row-within}
+use Rattle.words.specs.Words.{bit}
 use Rattle.records.specs.Records.{recordCount, recordAt}
-use Rattle.records.proofs.Store.{store-none, length-store, store-append, part-store}
-use Rattle.records.proofs.Flat.{picked-none, picked-yes, picked-no, picked-length, counted-none, counted-more, counted-yes, counted-le, counted-mono, row-within}
-use Rattle.copy_row.specs.Rows.{bit}
 use Rattle.access.specs.Access.{ACCESS-WIDTH, goodAccess}
 use Rattle.access.proofs.Good.{good-length}
 use Rattle.classify.specs.Classify.{classify, routeNumber}
@@ -21,7 +21,7 @@ use Rattle.classify.specs.declared.MemwRoute.{MemwRoute}
 use Rattle.classify.specs.declared.MemwRoute.the-variants.{Register, Aligned, General}
 use Rattle.routing.specs.Routing.{sameRoute, goesTo, routedOf, countOf}
 use Rattle.routing.specs.Steps.{countIn, oneMore, placed, Holds}
-use Rattle.routing.specs.declared.lists.Counts.{Counts}
+use Rattle.routing.specs.declared.split.Counts.{Counts}
 
 -- a whole record is as long in its route's list as the route's width says
 pub route-length : (t : MemwRoute) (r : List ℕ) → length r ≡ ACCESS-WIDTH → length (routeRecord t r) ≡ routeWidth t

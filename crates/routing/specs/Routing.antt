@@ -4,9 +4,8 @@ use Prim.Native.Nat.{ℕ, _*_}
 use mathlib.Core.Bool.{Bool, cond, _&&_}
 use mathlib.Core.List.{List}
 use lib.Dec.{eqb, ltb, leb}
-use Rattle.records.specs.Lists.{store, picked, counted}
+use Rattle.lists.specs.Lists.{store, picked, counted, at}
 use Rattle.records.specs.Records.{recordCount, recordAt, firstBad}
-use Rattle.copy_row.specs.Columns.{at}
 use Rattle.access.specs.Access.{BASE-ADDRESS, ACCESS-WIDTH, goodAccess}
 use Rattle.classify.specs.Classify.{classify, routeNumber}
 use Rattle.classify.specs.RouteRecord.{routeRecord, routeWidth, addressFits}

@@ -4,9 +4,8 @@ use Prim.Native.Nat.{ℕ, _+_, _*_, _≤_}
 use mathlib.Core.Bool.{true, cond}
 use mathlib.Core.List.{List}
 use lib.Dec.{ltb}
-use Rattle.records.specs.Lists.{store}
+use Rattle.lists.specs.Lists.{store, at}
 use Rattle.records.specs.Records.{recordCount, recordAt}
-use Rattle.copy_row.specs.Columns.{at}
 use Rattle.access.specs.Access.{BASE-ADDRESS, ACCESS-WIDTH, goodAccess}
 use Rattle.classify.specs.Classify.{classify}
 use Rattle.classify.specs.RouteRecord.{routeRecord, routeWidth, addressFits}
@@ -15,9 +14,9 @@ use Rattle.classify.specs.declared.MemwRoute.the-variants.{Register, Aligned, G
 use Rattle.routing.specs.Routing.{sameRoute, countOf, firstRefused, recordRefusal}
 use Rattle.routing.specs.declared.RouteAnswer.{RouteAnswer}
 use Rattle.routing.specs.declared.RouteAnswer.the-variants.{Routed}
-use Rattle.routing.specs.declared.lists.Counts.{Counts}
-use Rattle.routing.specs.declared.lists.Verdict.{Verdict}
-use Rattle.routing.specs.declared.lists.Verdict.the-variants.{Goes, Malformed, Misplaced}
+use Rattle.routing.specs.declared.split.Counts.{Counts}
+use Rattle.routing.specs.declared.split.Verdict.{Verdict}
+use Rattle.routing.specs.declared.split.Verdict.the-variants.{Goes, Malformed, Misplaced}
 
 -- what is said of a record: refused with 10, refused with 11, or its route
 unfoldable pub verdictOf : List ℕ → Verdict

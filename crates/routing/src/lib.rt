@@ -1,6 +1,6 @@
 // A list of access records routed into three lists, for the general, the aligned and the register table. Every list has an answer.
 // Assumes nothing.
-pub mod lists;
+pub mod split;
 
 ghost use mathlib.Core.Path.{_≡_};
 ghost use lib.ListN.{length};
@@ -47,7 +47,7 @@ pub fn route_accesses(
     ensures aligned { λ r. ⌜ now (aligned .exit) ≡ routeAfter Aligned (now (accesses .entry)) (routeAnswer 65536 (now (accesses .entry)) (length (now (register .entry))) (length (now (aligned .entry))) (length (now (general .entry)))) (now (aligned .entry)) ⌝ }
     ensures general { λ r. ⌜ now (general .exit) ≡ routeAfter General (now (accesses .entry)) (routeAnswer 65536 (now (accesses .entry)) (length (now (register .entry))) (length (now (aligned .entry))) (length (now (general .entry)))) (now (general .entry)) ⌝ }
 {
-    lists::route(65536, accesses, register, aligned, general)
+    split::route(65536, accesses, register, aligned, general)
 }
 
 // Document 01's number and place of an answer, and its counts; `over` is the number of the refusal of too many records.

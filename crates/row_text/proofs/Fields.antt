@@ -7,8 +7,8 @@ use native.Mathlib.Omega.{arith}
 use borrow.Author.Tests.{eq-eqb, ne-eqb}
 use lib.ListN.{length, drop, getD, set, drop-of-length-le, length-append, length-set}
 use lib.Seq.{drop-cons}
-use Rattle.records.specs.Lists.{store}
-use Rattle.records.proofs.Store.{store-append, length-store}
+use Rattle.lists.specs.Lists.{store}
+use Rattle.lists.proofs.Store.{store-append, length-store}
 use Rattle.row_text.specs.Rows.{kindText, decimalText, fieldsText}
 
 -- the three words

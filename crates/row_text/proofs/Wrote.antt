@@ -5,8 +5,8 @@ use Prim.Native.Nat.{ℕ, suc, _+_, _*_, _-_, _≤_, _<_}
 use native.Mathlib.Omega.{arith}
 use lib.ListN.{length, take, drop, length-append}
 use lib.Seq.{drop-drop}
-use Rattle.records.specs.Lists.{store}
-use Rattle.records.proofs.Store.{store-append}
+use Rattle.lists.specs.Lists.{store}
+use Rattle.lists.proofs.Store.{store-append}
 use Rattle.row_text.specs.Rows.{rowText, rowsText}
 
 -- two texts one after the other

@@ -6,8 +6,8 @@ use mathlib.Core.Bool.{cond}
 use mathlib.Core.List.{List, [], _∷_, _++_}
 use lib.ListN.{take, drop}
 use lib.Dec.{ltb, eqb}
-use Rattle.copy_row.specs.Calls.{Op, opOf}
-use Rattle.copy_row.specs.Trace.{OP-WIDTH}
+use Rattle.call.specs.Calls.{Op}
+use Rattle.call.specs.Ops.{opOf, OP-WIDTH}
 
 -- the decimal digits of n, at most f of them
 unfoldable pub digitsBy : ℕ → ℕ → List ℕ

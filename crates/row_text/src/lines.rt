@@ -3,8 +3,8 @@
 ghost use mathlib.Core.Path.{_≡_};
 ghost use Prim.Native.Nat.{_+_, _*_, _≤_};
 ghost use lib.ListN.{length};
-ghost use Rattle.records.specs.Lists.{store};
-ghost use Rattle.copy_row.specs.Trace.{OP-WIDTH};
+ghost use Rattle.lists.specs.Lists.{store};
+ghost use Rattle.call.specs.Ops.{OP-WIDTH};
 ghost use Rattle.row_text.specs.Rows.{decimalText, fieldsText, kindText, rowText, rowsText, passedText, refusedText};
 
 // The text as it is.

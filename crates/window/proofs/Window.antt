@@ -7,10 +7,9 @@ use native.Mathlib.Nat.{add-zero, sub-zero, zero-sub, zero-add, suc-sub-suc}
 use native.Mathlib.Omega.{arith}
 use lib.ListN.{length, take, drop, getD, set, replicate, length-append, length-replicate, take-append-drop}
 use lib.Seq.{take-at, take-append-add, drop-drop, getD-take, length-take-le}
-use Rattle.records.specs.Lists.{store}
-use Rattle.records.proofs.Store.{store-none, store-more, length-store, store-eq, store-turn, store-end, run-length, run-at}
-use Rattle.copy_row.specs.Calls.{eightAt}
-use Rattle.copy_row.proofs.Ops.{numbersAt, eight-back}
+use Rattle.lists.specs.Lists.{store, eightAt}
+use Rattle.lists.proofs.Numbers.{numbersAt, eight-back}
+use Rattle.lists.proofs.Store.{store-none, store-more, length-store, store-eq, store-turn, store-end, run-length, run-at}
 use Rattle.access.specs.Access.{accessRecord}
 use Rattle.window.specs.Window.{windowOf, cellsAt, writeBytes, writeStamps, memoryAccess, readAccess, writeAccess}
 

@@ -9,7 +9,7 @@ use crate::cells::read_bytes;
 use crate::cells::read_stamps;
 use crate::cells::write_bytes;
 use crate::cells::write_stamps;
-use records::lists::put;
+use lists::slices::put;
 
 fn wide(x: u8) -> u64
     ensures { λ r. ⌜ r ≡ x ⌝ }

@@ -2,6 +2,7 @@
 -- HL, lowest first". The width is a parameter throughout. Assumes nothing.
 use mathlib.Core.List.{List, [], _∷_}
 use Prim.Native.Nat.{ℕ, zero, suc, _+_, _-_, _*_, _/_, _%_, _^_}
+use mathlib.Core.Bool.{Bool, cond}
 
 -- the lowest n digits of x, of w bits each, lowest first
 abbrev pub digits : ℕ → ℕ → ℕ → List ℕ
@@ -29,3 +30,7 @@ wrapAdd a b = (a + b) % 2 ^ 64
 
 abbrev pub wrapSub : ℕ → ℕ → ℕ
 wrapSub a b = (a + (2 ^ 64 - b)) % 2 ^ 64
+
+-- 1 where b holds, else 0
+abbrev pub bit : Bool → ℕ
+bit b = cond b 1 0

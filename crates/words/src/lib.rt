@@ -2,7 +2,7 @@
 // Assumes nothing.
 ghost use mathlib.Core.Path.{_≡_};
 ghost use Prim.Native.Nat.{_/_, _%_, _^_};
-ghost use Rattle.words.specs.Words.{words, halves, bytes, wrapAdd, wrapSub};
+ghost use Rattle.words.specs.Words.{words, halves, bytes, bit, wrapAdd, wrapSub};
 
 // The bits below 2^32.
 pub fn low_word(x: u64) -> u64
@@ -43,6 +43,13 @@ pub fn bytes(x: u64) -> [u64; 8]
         (x >> 48) % 256,
         x >> 56,
     ]
+}
+
+// b as a number.
+pub fn bit(b: bool) -> u64
+    ensures { λ r. ⌜ r ≡ bit b ⌝ }
+{
+    if b { 1 } else { 0 }
 }
 
 // The sum, for the INCR and RES columns: "sums taken modulo 2^64, as the Rust's wrapping calls".

@@ -4,13 +4,13 @@ use mathlib.Core.Path.{_≡_, sym, ap, _∙_}
 use mathlib.Core.List.{List}
 use native.Mathlib.Omega.{arith}
 use native.Mathlib.Nat.{zero-add}
+use borrow.Author.Needs.{needs}
 use Rattle.line_text.specs.Lines.{gapOf, lines}
 use Rattle.line_text.specs.declared.Parsed.{Parsed}
 use Rattle.row_text.proofs.Wrote.{wrote}
 use Rattle.call_lines.specs.Run.{linesFrom}
 use Rattle.call_lines.specs.Output.{endingText, start}
 use Rattle.call_lines.proofs.Printed.{written, no-gap, wide-gap, good-gap}
-use borrow.Author.Needs.{needs}
 use Rattle.call_lines.proofs.answer.Statement.{statement}
 use Rattle.call_lines.proofs.answer.Tie as tie
 

@@ -1,8 +1,8 @@
 -- `classify::classify_memw` meets its contract: a good record has a route, and any other is refused. Assumes nothing.
 use mathlib.Core.Path.{sym, ap, _∙_}
-use Rattle.classify.specs.declared.ClassifyAnswer.the-variants.{Route}
-use Rattle.classify.specs.Classify.{classifyAnswer, classifyNumbers}
 use borrow.Author.Needs.{needs}
+use Rattle.classify.specs.Classify.{classifyAnswer, classifyNumbers}
+use Rattle.classify.specs.declared.ClassifyAnswer.the-variants.{Route}
 use Rattle.classify.proofs.classify_memw.Statement.{statement}
 use Rattle.classify.proofs.classify_memw.Tie as tie
 

@@ -1,8 +1,8 @@
 -- `classify::numbers` meets its contract: each arm of the match is a case of the definition. Assumes nothing.
 use mathlib.Core.Path.{sym, ap, _∙_}
+use borrow.Author.Needs.{needs}
 use Rattle.answer.specs.Numbers.{accepted}
 use Rattle.classify.specs.Classify.{classifyNumbers}
-use borrow.Author.Needs.{needs}
 use Rattle.classify.proofs.numbers.Statement.{statement}
 use Rattle.classify.proofs.numbers.Tie as tie
 

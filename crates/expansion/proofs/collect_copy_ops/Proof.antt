@@ -3,7 +3,7 @@ use borrow.Author.Needs.{needs}
 use mathlib.Core.Path.{ap, _∙_}
 use Prim.Native.Nat.{ℕ}
 use denote.Ref.{now}
-use Rattle.copy_row.specs.Calls.{Call}
+use Rattle.call.specs.Calls.{Call}
 use Rattle.expansion.specs.Refusals.{expansionNumbers}
 use Rattle.expansion.specs.Expansion.{lent, answerFor, lentAfter}
 use Rattle.expansion.proofs.collect_copy_ops.Statement.{statement}

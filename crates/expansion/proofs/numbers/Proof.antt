@@ -2,8 +2,8 @@
 use borrow.Author.Needs.{needs}
 use mathlib.Core.Path.{sym, ap, _∙_}
 use Rattle.answer.specs.declared.Answer.{Answer}
-use Rattle.expansion.specs.declared.ExpansionAnswer.{ExpansionAnswer}
 use Rattle.expansion.specs.Refusals.{expansionNumbers}
+use Rattle.expansion.specs.declared.ExpansionAnswer.{ExpansionAnswer}
 use Rattle.expansion.proofs.numbers.Statement.{statement}
 use Rattle.expansion.proofs.numbers.Tie as tie
 

@@ -1,6 +1,6 @@
 -- `line_text::head` meets its contract: the part before the first `b` is cut at its position. Assumes nothing.
-use Rattle.line_text.proofs.Pieces.{head-is}
 use borrow.Author.Needs.{needs}
+use Rattle.line_text.proofs.Pieces.{head-is}
 use Rattle.line_text.proofs.head.Statement.{statement}
 use Rattle.line_text.proofs.head.Tie as tie
 

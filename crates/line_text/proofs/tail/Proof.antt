@@ -1,7 +1,7 @@
 -- `line_text::tail` meets its contract: the part after the first `b` starts behind its position, and is empty where there is none.
 -- Assumes nothing.
-use Rattle.line_text.proofs.Pieces.{tail-is, tail-none}
 use borrow.Author.Needs.{needs}
+use Rattle.line_text.proofs.Pieces.{tail-is, tail-none}
 use Rattle.line_text.proofs.tail.Statement.{statement}
 use Rattle.line_text.proofs.tail.Tie as tie
 

@@ -1,8 +1,8 @@
 -- `reg_access::numbers` meets its contract: each arm of the match is a case of the definition. Assumes nothing.
 use mathlib.Core.Path.{sym, ap, _∙_}
+use borrow.Author.Needs.{needs}
 use Rattle.answer.specs.Numbers.{accepted}
 use Rattle.reg_access.specs.RegAccess.{pushNumbers}
-use borrow.Author.Needs.{needs}
 use Rattle.reg_access.proofs.numbers.Statement.{statement}
 use Rattle.reg_access.proofs.numbers.Tie as tie
 

@@ -1,10 +1,10 @@
 -- `reg_access::push_reg_access` meets its contract: the route of the inputs is that of the record, and the address decides the rest.
 -- Assumes nothing.
 use mathlib.Core.Path.{sym, ap, _∙_}
+use borrow.Author.Needs.{needs}
 use Rattle.reg_access.specs.RegAccess.{built, written, pushNumbers}
 use Rattle.reg_access.specs.declared.RegAccess.{RegAccess}
 use Rattle.reg_access.proofs.Route.{built-route, pushed-fits, pushed-not}
-use borrow.Author.Needs.{needs}
 use Rattle.reg_access.proofs.push_reg_access.Statement.{statement}
 use Rattle.reg_access.proofs.push_reg_access.Tie as tie
 

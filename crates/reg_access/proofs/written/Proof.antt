@@ -1,6 +1,6 @@
 -- `reg_access::written` meets its contract: each route has its form of the record. Assumes nothing.
-use Rattle.reg_access.specs.RegAccess.{built}
 use borrow.Author.Needs.{needs}
+use Rattle.reg_access.specs.RegAccess.{built}
 use Rattle.reg_access.proofs.written.Statement.{statement}
 use Rattle.reg_access.proofs.written.Tie as tie
 

@@ -3,8 +3,8 @@
 use mathlib.Core.Path.{ap, _∙_}
 use borrow.Author.Needs.{needs}
 use denote.Ref.{now}
-use Rattle.registers.specs.declared.RegisterStep.{RegisterStep}
 use Rattle.registers.specs.Step.{stepNumbers}
+use Rattle.registers.specs.declared.RegisterStep.{RegisterStep}
 use Rattle.register_numbers.specs.RegisterNumbers.{stateNumbers}
 use Rattle.register_numbers.proofs.Cases.{kind-refused, index-refused, stepped, same-step, kept, kept-ten, written}
 use Rattle.register_numbers.proofs.collect_copy_register_ops.Statement.{statement}

@@ -1,7 +1,7 @@
 -- `register_numbers::new_register_state` meets its contract: the new state, in numbers. Assumes nothing.
 use mathlib.Core.Path.{ap, _∙_}
-use Rattle.register_numbers.specs.RegisterNumbers.{stateNumbers}
 use borrow.Author.Needs.{needs}
+use Rattle.register_numbers.specs.RegisterNumbers.{stateNumbers}
 use Rattle.register_numbers.proofs.new_register_state.Statement.{statement}
 use Rattle.register_numbers.proofs.new_register_state.Tie as tie
 

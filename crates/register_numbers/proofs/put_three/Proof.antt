@@ -3,8 +3,8 @@ use mathlib.Core.Path.{refl}
 use mathlib.Core.List.{_++_}
 use lib.ListN.{take, drop}
 use denote.Ref.{now}
-use Rattle.register_numbers.proofs.Placed.{three-placed}
 use borrow.Author.Needs.{needs}
+use Rattle.register_numbers.proofs.Placed.{three-placed}
 use Rattle.register_numbers.proofs.put_three.Statement.{statement}
 use Rattle.register_numbers.proofs.put_three.Tie as tie
 

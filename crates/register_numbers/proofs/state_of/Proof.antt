@@ -1,6 +1,6 @@
 -- `register_numbers::state_of` meets its contract, field by field. Assumes nothing.
-use Rattle.copy_row.specs.Columns.{at}
 use borrow.Author.Needs.{needs}
+use Rattle.lists.specs.Lists.{at}
 use Rattle.register_numbers.proofs.state_of.Statement.{statement}
 use Rattle.register_numbers.proofs.state_of.Tie as tie
 

@@ -1,8 +1,8 @@
 -- `registers::collect_copy_register_ops` meets its contract: each kind has its own step. Assumes nothing.
 use mathlib.Core.Path.{_≡_, ap}
-use Rattle.registers.specs.declared.RegisterStep.{RegisterStep}
-use Rattle.registers.specs.Step.{stepNumbers, registerStep}
 use borrow.Author.Needs.{needs}
+use Rattle.registers.specs.Step.{stepNumbers, registerStep}
+use Rattle.registers.specs.declared.RegisterStep.{RegisterStep}
 use Rattle.registers.proofs.collect_copy_register_ops.Statement.{statement}
 use Rattle.registers.proofs.collect_copy_register_ops.Tie as tie
 

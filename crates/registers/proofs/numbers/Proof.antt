@@ -1,7 +1,7 @@
 -- `registers::numbers` meets its contract: each arm of the match is a case of the definition. Assumes nothing.
 use mathlib.Core.Path.{sym, ap, _∙_}
-use Rattle.registers.specs.Step.{stepNumbers}
 use borrow.Author.Needs.{needs}
+use Rattle.registers.specs.Step.{stepNumbers}
 use Rattle.registers.proofs.numbers.Statement.{statement}
 use Rattle.registers.proofs.numbers.Tie as tie
 

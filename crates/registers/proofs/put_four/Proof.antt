@@ -3,8 +3,8 @@ use mathlib.Core.Path.{refl}
 use mathlib.Core.List.{_++_}
 use lib.ListN.{take, drop}
 use denote.Ref.{now}
-use Rattle.registers.proofs.FourRecords.{four-placed}
 use borrow.Author.Needs.{needs}
+use Rattle.registers.proofs.FourRecords.{four-placed}
 use Rattle.registers.proofs.put_four.Statement.{statement}
 use Rattle.registers.proofs.put_four.Tie as tie
 

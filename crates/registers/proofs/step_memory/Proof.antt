@@ -1,6 +1,6 @@
 -- `registers::step_memory` meets its contract: the calls, put together, are the definition. Assumes nothing.
-use Rattle.registers.specs.Step.{registerStep}
 use borrow.Author.Needs.{needs}
+use Rattle.registers.specs.Step.{registerStep}
 use Rattle.registers.proofs.step_memory.Statement.{statement}
 use Rattle.registers.proofs.step_memory.Tie as tie
 

@@ -3,8 +3,8 @@
 use Prim.Native.Nat.{_+_, _-_, _^_}
 use native.Mathlib.Omega.{arith}
 use borrow.Author.Tests.{eq-eqb, ne-eqb, lt-ltb, le-ltb}
-use Rattle.registers.specs.Step.{registerStep}
 use borrow.Author.Needs.{needs}
+use Rattle.registers.specs.Step.{registerStep}
 use Rattle.registers.proofs.step_write.Statement.{statement}
 use Rattle.registers.proofs.step_write.Tie as tie
 

@@ -3,8 +3,8 @@ use mathlib.Core.Path.{_≡_}
 use Prim.Native.Nat.{_≤_, _-_}
 use native.Mathlib.Omega.{arith}
 use lib.ListN.{length, length-set}
-use Rattle.replay.proofs.Counted.{counts}
 use borrow.Author.Needs.{needs}
+use Rattle.replay.proofs.Counted.{counts}
 use Rattle.replay.proofs.load_bytes.Statement.{statement}
 use Rattle.replay.proofs.load_bytes.Tie as tie
 

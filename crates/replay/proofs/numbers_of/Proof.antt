@@ -1,10 +1,10 @@
 -- `replay::numbers_of` meets its contract: no more numbers are stored than out has room for. Assumes nothing.
 use mathlib.Core.Path.{_≡_}
-use Rattle.replay.proofs.Counted.{counts}
 use Prim.Native.Nat.{_≤_, _-_}
 use native.Mathlib.Omega.{arith}
 use lib.ListN.{length, length-set}
 use borrow.Author.Needs.{needs}
+use Rattle.replay.proofs.Counted.{counts}
 use Rattle.replay.proofs.numbers_of.Statement.{statement}
 use Rattle.replay.proofs.numbers_of.Tie as tie
 

@@ -3,7 +3,7 @@ use mathlib.Core.Path.{ap}
 use native.Mathlib.Omega.{arith}
 use borrow.Author.Needs.{needs}
 use lib.ListN.{length}
-use Rattle.records.proofs.Store.{length-store}
+use Rattle.lists.proofs.Store.{length-store}
 use Rattle.replay_callcheck.proofs.put.Statement.{statement}
 use Rattle.replay_callcheck.proofs.put.Tie as tie
 

@@ -1,7 +1,7 @@
 -- `routing::numbers` meets its contract: each arm of the match is a case of the definition. Assumes nothing.
 use mathlib.Core.Path.{sym, ap, _∙_}
-use Rattle.routing.specs.Routing.{routeNumbers}
 use borrow.Author.Needs.{needs}
+use Rattle.routing.specs.Routing.{routeNumbers}
 use Rattle.routing.proofs.numbers.Statement.{statement}
 use Rattle.routing.proofs.numbers.Tie as tie
 

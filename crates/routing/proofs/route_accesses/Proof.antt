@@ -1,9 +1,9 @@
 -- `routing::route_accesses` meets its contract: it is routing with the limit 65,536. Assumes nothing.
 use mathlib.Core.Path.{ap, _∙_}
 use denote.Ref.{now}
+use borrow.Author.Needs.{needs}
 use Rattle.classify.specs.declared.MemwRoute.the-variants.{Register, Aligned, General}
 use Rattle.routing.specs.Routing.{routeAfter, routeNumbers}
-use borrow.Author.Needs.{needs}
 use Rattle.routing.proofs.route_accesses.Statement.{statement}
 use Rattle.routing.proofs.route_accesses.Tie as tie
 

@@ -3,8 +3,8 @@ use borrow.Author.Needs.{needs}
 use mathlib.Core.Path.{_≡_}
 use Prim.Native.Nat.{_-_, _≤_}
 use native.Mathlib.Omega.{arith}
-use Rattle.add_pair.specs.declared.Walk.the-variants.{At}
 use Rattle.add_pair.specs.Flat.{afterTerms}
+use Rattle.add_pair.specs.declared.Walk.the-variants.{At}
 use Rattle.add_pair.proofs.Walks.{walk-starts, walk-stops, walk-goes-on, walk-ends}
 use Rattle.add_pair.proofs.flat.after_terms.Statement.{statement}
 use Rattle.add_pair.proofs.flat.after_terms.Tie as tie

@@ -3,9 +3,9 @@ use mathlib.Core.Path.{sym, _∙_}
 use native.Mathlib.Omega.{arith}
 use native.Mathlib.Nat.{zero-add}
 use lib.ListN.{length-take}
+use borrow.Author.Needs.{needs}
 use Rattle.row_text.proofs.Wrote.{wrote}
 use Rattle.call_lines.proofs.Printed.{rows-most, written, ran-done, ran-refused}
-use borrow.Author.Needs.{needs}
 use Rattle.call_lines.proofs.print.put_calls.Statement.{statement}
 use Rattle.call_lines.proofs.print.put_calls.Tie as tie
 

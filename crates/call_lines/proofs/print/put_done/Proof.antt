@@ -2,9 +2,9 @@
 use mathlib.Core.Path.{sym, _∙_}
 use native.Mathlib.Omega.{arith}
 use native.Mathlib.Nat.{zero-add}
+use borrow.Author.Needs.{needs}
 use Rattle.row_text.proofs.Wrote.{wrote, then}
 use Rattle.call_lines.proofs.Printed.{written, done-text}
-use borrow.Author.Needs.{needs}
 use Rattle.call_lines.proofs.print.put_done.Statement.{statement}
 use Rattle.call_lines.proofs.print.put_done.Tie as tie
 

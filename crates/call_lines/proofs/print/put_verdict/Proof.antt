@@ -1,8 +1,8 @@
 -- `call_lines::print::put_verdict` meets its contract. Assumes nothing.
 use native.Mathlib.Omega.{arith}
-use Rattle.call_lines.proofs.Printed.{written-at, verdict-passes, verdict-refuses}
-use Rattle.row_text.proofs.Wrote.{wrote}
 use borrow.Author.Needs.{needs}
+use Rattle.row_text.proofs.Wrote.{wrote}
+use Rattle.call_lines.proofs.Printed.{written-at, verdict-passes, verdict-refuses}
 use Rattle.call_lines.proofs.print.put_verdict.Statement.{statement}
 use Rattle.call_lines.proofs.print.put_verdict.Tie as tie
 

@@ -1,10 +1,10 @@
 -- `call_lines::print::verdict` meets its contract: the rows that were made fit into the table, and just these are checked. Assumes nothing.
 use mathlib.Core.Path.{_≡_, _∙_}
 use native.Mathlib.Omega.{arith}
+use borrow.Author.Needs.{needs}
 use Rattle.answer.specs.declared.Answer.{Answer}
 use Rattle.answer.proofs.Parts.{value-same}
 use Rattle.call_lines.proofs.Printed.{table-fits, verdict-is}
-use borrow.Author.Needs.{needs}
 use Rattle.call_lines.proofs.print.verdict.Statement.{statement}
 use Rattle.call_lines.proofs.print.verdict.Tie as tie
 

@@ -8,7 +8,7 @@ use borrow.Author.Needs.{needs}
 use borrow.Author.Tests.{lt-ltb, le-ltb}
 use denote.Ref.{now}
 use lib.Dec.{ltb}
-use Rattle.expansion_rows.specs.Rows.{callOf}
+use Rattle.call.specs.Calls.{callOf}
 use Rattle.call_list.proofs.Counting.{CountAt, count-start, count-turn, count-end}
 use Rattle.call_list.proofs.ahead.count.Statement.{statement}
 use Rattle.call_list.proofs.ahead.count.Tie as tie

@@ -3,9 +3,9 @@ use mathlib.Core.Path.{ap, _∙_}
 use native.Mathlib.Omega.{arith}
 use borrow.Author.Needs.{needs}
 use borrow.Author.Tests.{lt-ltb, le-ltb}
+use Rattle.call.specs.Calls.{callOf}
 use Rattle.expansion.specs.Refusals.{expansionNumbers}
 use Rattle.expansion.specs.declared.ExpansionAnswer.{ExpansionAnswer}
-use Rattle.expansion_rows.specs.Rows.{callOf}
 use Rattle.call_list.specs.Counts.{recordsOf}
 use Rattle.call_list.proofs.OneCall.{value-room}
 use Rattle.call_list.proofs.ahead.records_of.Statement.{statement}

@@ -3,7 +3,7 @@ use Prim.Native.Nat.{_-_}
 use native.Mathlib.Omega.{arith}
 use borrow.Author.Needs.{needs}
 use denote.Ref.{now}
-use Rattle.expansion_rows.specs.Rows.{callOf}
+use Rattle.call.specs.Calls.{callOf}
 use Rattle.call_list.proofs.Expanding.{Going, going-start, going-turn, going-end}
 use Rattle.call_list.proofs.turns.expand_all.Statement.{statement}
 use Rattle.call_list.proofs.turns.expand_all.Tie as tie

@@ -2,9 +2,9 @@
 use mathlib.Core.Path.{ap, _∙_}
 use borrow.Author.Needs.{needs}
 use denote.Ref.{now}
+use Rattle.call.specs.Calls.{callOf}
 use Rattle.expansion.specs.Refusals.{expansionNumbers}
 use Rattle.expansion.specs.declared.ExpansionAnswer.{ExpansionAnswer}
-use Rattle.expansion_rows.specs.Rows.{callOf}
 use Rattle.call_list.proofs.InTurn.{turned-none, turned-one}
 use Rattle.call_list.proofs.turns.expand_next.Statement.{statement}
 use Rattle.call_list.proofs.turns.expand_next.Tie as tie

@@ -8,18 +8,18 @@ use native.Mathlib.Omega.{arith}
 use borrow.Author.Needs.{needs}
 use borrow.Author.Tests.{le-leb, lt-leb, eq-eqb, ne-eqb, not-true, not-false}
 use lib.ListN.{length}
+use Rattle.lists.specs.Lists.{first}
+use Rattle.lists.proofs.First.{first-miss, first-hit, first-end}
 use Rattle.copy_row.specs.Columns.{COLUMNS}
-use Rattle.records.specs.Lists.{first}
-use Rattle.records.proofs.First.{first-miss, first-hit, first-end}
 use Rattle.copy_residues.specs.Residues.{residue, RESIDUES}
 use Rattle.copy_residues.specs.RowCheck.{firstResidue, rowFault}
 use Rattle.copy_residues.specs.declared.RowFault.the-variants.{Fine, NotZero}
 use Rattle.copy_residues.proofs.InRange.{elements}
-use Rattle.copy_residues.proofs.RowFaults.{not-element, out-of-range, not-zero, fine}
 use Rattle.copy_residues.proofs.ZeroResidues.{notZero, found, passed}
+use Rattle.copy_residues.proofs.RowFaults.{not-element, out-of-range, not-zero, fine}
 use Rattle.plain_row.proofs.Same.{fits-of-fine}
-use Rattle.chain.specs.Standing.{standing, Stood}
 use Rattle.chain.specs.Chain.{chainAnswer, chainFrom}
+use Rattle.chain.specs.Standing.{standing, Stood}
 use Rattle.chain.proofs.Links.{standing-none, stood-none, stood-row}
 use Rattle.chain.proofs.Rows.{rowAt, restAt, row-length, from-element, from-range, from-residue, from-broken, from-step, from-unended, from-end}
 use Rattle.chain.proofs.check.check.Statement.{statement}

@@ -1,8 +1,8 @@
 -- `link::goes_on`: seven numbers, each that of the row before. Assumes nothing.
 use native.Mathlib.Omega.{arith}
 use borrow.Author.Needs.{needs}
-use Rattle.chain.proofs.Links.{goes-on-same}
 use Rattle.plain_row.proofs.Columns.{src-words, dst-words, count-words, src-halves, dst-halves, count-halves}
+use Rattle.chain.proofs.Links.{goes-on-same}
 use Rattle.chain.proofs.link.goes_on.Statement.{statement}
 use Rattle.chain.proofs.link.goes_on.Tie as tie
 

@@ -1,8 +1,8 @@
 -- `classify::route::classify` meets its contract: the tests in the definition's order. Assumes nothing.
 use mathlib.Core.Path.{sym, _∙_}
+use borrow.Author.Needs.{needs}
 use Rattle.access.proofs.Good.{good-length}
 use Rattle.classify.specs.Classify.{classify}
-use borrow.Author.Needs.{needs}
 use Rattle.classify.proofs.route.classify.Statement.{statement}
 use Rattle.classify.proofs.route.classify.Tie as tie
 

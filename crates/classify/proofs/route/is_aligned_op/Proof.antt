@@ -6,13 +6,12 @@ use native.Mathlib.Omega.{arith}
 use borrow.Author.Tests.{eq-eqb, ne-eqb}
 use denote.Ref.{now}
 use lib.ListN.{length}
-use Rattle.records.specs.Lists.{first}
-use Rattle.copy_row.specs.Columns.{at}
+use borrow.Author.Needs.{needs}
+use Rattle.lists.specs.Lists.{first, at}
 use Rattle.access.specs.Access.{WIDTH}
 use Rattle.access.proofs.Good.{good-length, good-width, width-bounds}
 use Rattle.classify.specs.Classify.{otherStamp, isAlignedOp}
 use Rattle.classify.proofs.Stamps.{stamps-start, stamps-pass, stamps-stop, stamps-end}
-use borrow.Author.Needs.{needs}
 use Rattle.classify.proofs.route.is_aligned_op.Statement.{statement}
 use Rattle.classify.proofs.route.is_aligned_op.Tie as tie
 

@@ -1,7 +1,7 @@
 -- `classify::route::is_register_op` meets its contract: each way out is a case of the definition. Assumes nothing.
 use borrow.Author.Tests.{eq-eqb, ne-eqb}
-use Rattle.classify.specs.Classify.{isRegisterOp}
 use borrow.Author.Needs.{needs}
+use Rattle.classify.specs.Classify.{isRegisterOp}
 use Rattle.classify.proofs.route.is_register_op.Statement.{statement}
 use Rattle.classify.proofs.route.is_register_op.Tie as tie
 

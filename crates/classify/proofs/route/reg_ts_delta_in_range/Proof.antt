@@ -2,8 +2,8 @@
 use Prim.Native.Nat.{_-_}
 use native.Mathlib.Omega.{arith}
 use borrow.Author.Tests.{eq-eqb, ne-eqb, le-leb, lt-leb}
-use Rattle.classify.specs.Classify.{lowWord, deltaInRange}
 use borrow.Author.Needs.{needs}
+use Rattle.classify.specs.Classify.{lowWord, deltaInRange}
 use Rattle.classify.proofs.route.reg_ts_delta_in_range.Statement.{statement}
 use Rattle.classify.proofs.route.reg_ts_delta_in_range.Tie as tie
 

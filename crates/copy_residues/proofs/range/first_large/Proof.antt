@@ -7,8 +7,8 @@ use borrow.Author.Needs.{needs}
 use borrow.Author.Tests.{le-leb, lt-leb}
 use denote.Ref.{now}
 use lib.ListN.{length}
-use Rattle.records.specs.Lists.{first}
-use Rattle.records.proofs.First.{first-miss, first-hit, first-end}
+use Rattle.lists.specs.Lists.{first}
+use Rattle.lists.proofs.First.{first-miss, first-hit, first-end}
 use Rattle.copy_residues.specs.Range.{firstLarge}
 use Rattle.copy_residues.proofs.InRange.{large}
 use Rattle.copy_residues.proofs.range.first_large.Statement.{statement}

@@ -4,8 +4,8 @@ use Prim.Native.Nat.{_≤_, _-_}
 use native.Mathlib.Omega.{arith}
 use borrow.Author.Needs.{needs}
 use borrow.Author.Tests.{le-leb, lt-leb}
-use Rattle.records.specs.Lists.{first}
-use Rattle.records.proofs.First.{first-miss, first-hit, first-end}
+use Rattle.lists.specs.Lists.{first}
+use Rattle.lists.proofs.First.{first-miss, first-hit, first-end}
 use Rattle.copy_row.specs.Columns.{COLUMNS}
 use Rattle.copy_residues.specs.Range.{columnLimits, firstOut}
 use Rattle.copy_residues.proofs.InRange.{out}

@@ -8,8 +8,8 @@ use native.Mathlib.Omega.{arith}
 use Rattle.field.specs.Field.{bitP}
 use Rattle.copy_row.specs.Columns.{COLUMNS}
 use Rattle.copy_residues.specs.Residues.{residue}
-use Rattle.copy_residues.proofs.CountBorrow.{carried}
 use Rattle.copy_residues.proofs.Missed.{past}
+use Rattle.copy_residues.proofs.CountBorrow.{carried}
 use Rattle.copy_residues.proofs.residues.residue_with.Statement.{statement}
 use Rattle.copy_residues.proofs.residues.residue_with.Tie as tie
 

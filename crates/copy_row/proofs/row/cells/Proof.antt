@@ -5,10 +5,11 @@ use mathlib.Core.List.{List, [], _∷_, _++_}
 use Prim.Native.Nat.{ℕ}
 use borrow.Author.Needs.{needs}
 use lib.Dec.{eqb}
-use Rattle.words.specs.Words.{words, halves}
-use Rattle.copy_row.specs.Calls.{Op, eightAt, operation}
-use Rattle.copy_row.specs.Rows.{bit, wrapped, dstRes, muCom, rowOf, tableRow}
-use Rattle.copy_row.proofs.Ops.{numbersAt}
+use Rattle.lists.specs.Lists.{eightAt}
+use Rattle.lists.proofs.Numbers.{numbersAt}
+use Rattle.words.specs.Words.{words, halves, bit}
+use Rattle.call.specs.Calls.{Op}
+use Rattle.copy_row.specs.Rows.{operation, wrapped, dstRes, muCom, rowOf, tableRow}
 use Rattle.copy_row.proofs.row.cells.Statement.{statement}
 use Rattle.copy_row.proofs.row.cells.Tie as tie
 

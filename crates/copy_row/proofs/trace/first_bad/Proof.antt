@@ -5,10 +5,10 @@ use native.Mathlib.Omega.{arith}
 use borrow.Author.Needs.{needs}
 use borrow.Author.Tests.{not-true, not-false}
 use denote.Ref.{now}
-use Rattle.records.specs.Lists.{first}
+use Rattle.lists.specs.Lists.{first}
 use Rattle.records.specs.Records.{recordCount, firstBad}
 use Rattle.records.proofs.Records.{badAt, bad-start, bad-pass, bad-stop, bad-end}
-use Rattle.copy_row.specs.Trace.{OP-WIDTH, goodOp}
+use Rattle.call.specs.Ops.{OP-WIDTH, goodOp}
 use Rattle.copy_row.proofs.trace.first_bad.Statement.{statement}
 use Rattle.copy_row.proofs.trace.first_bad.Tie as tie
 

@@ -8,8 +8,9 @@ use denote.Ref.{now}
 use lib.ListN.{length}
 use Rattle.records.specs.declared.TableAnswer.{TableAnswer}
 use Rattle.records.proofs.Table.{refused-keeps}
+use Rattle.call.specs.Ops.{OP-WIDTH}
 use Rattle.copy_row.specs.Rows.{paddingRow}
-use Rattle.copy_row.specs.Trace.{OP-WIDTH, copyRow, copyAfter}
+use Rattle.copy_row.specs.Trace.{copyRow, copyAfter}
 use Rattle.copy_row.proofs.CopyTable.{made-facts, made-whole}
 use Rattle.copy_row.proofs.trace.make.Statement.{statement}
 use Rattle.copy_row.proofs.trace.make.Tie as tie

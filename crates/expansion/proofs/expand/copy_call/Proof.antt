@@ -3,7 +3,7 @@
 use borrow.Author.Needs.{needs}
 use native.Mathlib.Omega.{arith}
 use denote.Ref.{now}
-use Rattle.expansion_rows.specs.Rows.{callOf}
+use Rattle.call.specs.Calls.{callOf}
 use Rattle.expansion_rows.specs.Inside.{Bytes}
 use Rattle.expansion.proofs.Moved.{pass-inside, write-inside, expanded-copy}
 use Rattle.expansion.proofs.expand.copy_call.Statement.{statement}

@@ -9,10 +9,10 @@ use denote.Enum.Declared.{tagOf}
 use denote.Ref.{now}
 use types.Run.{OneOf, miss}
 use lib.ListN.{length}
-use Rattle.expansion_rows.specs.Rows.{callOf}
+use Rattle.call.specs.Calls.{callOf}
+use Rattle.expansion.specs.Expansion.{Lent, lent, expanded, ifExpanded, lentAfter}
 use Rattle.expansion.specs.declared.ExpansionAnswer.{ExpansionAnswer}
 use Rattle.expansion.specs.declared.ExpansionAnswer.the-variants.{Expanded, GapTooLarge, BadWindow, LastStamp, NotGapApart, PastIndex, OutsideWindow, BufferShort}
-use Rattle.expansion.specs.Expansion.{Lent, lent, expanded, ifExpanded, lentAfter}
 use Rattle.expansion.proofs.Judged.{accepted-is}
 use Rattle.expansion.proofs.Moved.{accepted-inside}
 use Rattle.expansion.proofs.ExpansionAnswer.{the-type}

@@ -8,8 +8,8 @@ use denote.Ref.{now}
 use native.Mathlib.Omega.{arith}
 use lib.Dec.{leb}
 use borrow.Author.Tests.{le-leb}
-use Rattle.records.specs.Lists.{store}
-use Rattle.records.proofs.Store.{part-back}
+use Rattle.lists.specs.Lists.{store}
+use Rattle.lists.proofs.Store.{part-back}
 use Rattle.expansion.proofs.expand.write_empty.Statement.{statement}
 use Rattle.expansion.proofs.expand.write_empty.Tie as tie
 

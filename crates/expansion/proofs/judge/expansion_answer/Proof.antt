@@ -4,7 +4,7 @@ use mathlib.Core.Path.{sym, _∙_}
 use Prim.Native.Nat.{_^_, _≤_, _<_}
 use native.Mathlib.Omega.{arith}
 use borrow.Author.Tests.{le-leb, lt-leb, eq-eqb, ne-eqb}
-use Rattle.expansion_rows.specs.Rows.{callOf}
+use Rattle.call.specs.Calls.{callOf}
 use Rattle.expansion.specs.Refusals.{refusals, expansionAnswer}
 use Rattle.expansion.proofs.Judged.{Fair, fair, count-fits, source-fits, dest-fits, answer-short, answer-expanded}
 use Rattle.expansion.proofs.judge.expansion_answer.Statement.{statement}

@@ -6,9 +6,8 @@ use Prim.Native.Nat.{ℕ, _+_, _-_, _≤_, _<_}
 use native.Mathlib.Omega.{arith}
 use denote.Ref.{now}
 use lib.ListN.{length, drop, set, replicate, length-set}
-use Rattle.records.specs.Lists.{store}
-use Rattle.records.proofs.Store.{store-turn, store-end, store-all}
-use Rattle.copy_row.specs.Calls.{eightAt}
+use Rattle.lists.specs.Lists.{store, eightAt}
+use Rattle.lists.proofs.Store.{store-turn, store-end, store-all}
 use Rattle.window.proofs.Window.{value-at}
 use Rattle.expansion_rows.proofs.held.value_bytes.Statement.{statement}
 use Rattle.expansion_rows.proofs.held.value_bytes.Tie as tie

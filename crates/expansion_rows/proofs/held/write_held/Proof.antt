@@ -5,8 +5,8 @@ use mathlib.Core.Path.{sym, ap, _∙_}
 use mathlib.Core.List.{List}
 use Prim.Native.Nat.{ℕ}
 use denote.Ref.{now}
-use Rattle.copy_row.specs.Columns.{at}
-use Rattle.copy_row.specs.Calls.{opOf}
+use Rattle.lists.specs.Lists.{at}
+use Rattle.call.specs.Ops.{opOf}
 use Rattle.access.specs.Access.{accessRecord}
 use Rattle.window.specs.Window.{windowOf, writeBytes, writeStamps, writeAccess}
 use Rattle.expansion_rows.proofs.held.write_held.Statement.{statement}

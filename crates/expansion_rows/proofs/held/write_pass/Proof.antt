@@ -4,7 +4,7 @@ use borrow.Author.Needs.{needs}
 use Prim.Native.Nat.{_+_, _-_, _*_}
 use native.Mathlib.Omega.{arith}
 use denote.Ref.{now}
-use Rattle.records.proofs.Store.{run-length}
+use Rattle.lists.proofs.Store.{run-length}
 use Rattle.expansion_rows.proofs.WriteLoop.{WriteAt, write-start, hand-inside, write-turn, write-end}
 use Rattle.expansion_rows.proofs.held.write_pass.Statement.{statement}
 use Rattle.expansion_rows.proofs.held.write_pass.Tie as tie

@@ -2,7 +2,7 @@
 use borrow.Author.Needs.{needs}
 use mathlib.Core.Path.{_≡_}
 use lib.ListN.{length}
-use Rattle.copy_row.proofs.Ops.{eight-back}
+use Rattle.lists.proofs.Numbers.{eight-back}
 use Rattle.expansion_rows.proofs.rows.op_record.Statement.{statement}
 use Rattle.expansion_rows.proofs.rows.op_record.Tie as tie
 

@@ -3,8 +3,7 @@
 use borrow.Author.Needs.{needs}
 use mathlib.Core.Path.{ap}
 use native.Mathlib.Omega.{arith}
-use Rattle.copy_row.specs.Calls.{Call}
-use Rattle.expansion_rows.specs.Rows.{callOf}
+use Rattle.call.specs.Calls.{Call, callOf}
 use Rattle.expansion_rows.proofs.Width.{width-pos, width-within}
 use Rattle.expansion_rows.proofs.RowList.{CountAt, count-start, count-turn, count-end}
 use Rattle.expansion_rows.proofs.rows.row_count.Statement.{statement}

@@ -5,9 +5,8 @@ use mathlib.Core.Path.{_≡_, ap}
 use Prim.Native.Nat.{_+_, _-_, _*_}
 use native.Mathlib.Omega.{arith}
 use denote.Ref.{now}
-use Rattle.records.proofs.Store.{run-length}
-use Rattle.copy_row.specs.Calls.{Call}
-use Rattle.expansion_rows.specs.Rows.{callOf}
+use Rattle.lists.proofs.Store.{run-length}
+use Rattle.call.specs.Calls.{Call, callOf}
 use Rattle.expansion_rows.proofs.ReadLoop.{PassAt, Ahead, pass-start, ahead, pass-turn, pass-end}
 use Rattle.expansion_rows.proofs.turns.read_pass.Statement.{statement}
 use Rattle.expansion_rows.proofs.turns.read_pass.Tie as tie

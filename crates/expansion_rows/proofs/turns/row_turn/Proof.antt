@@ -4,9 +4,9 @@ use mathlib.Core.Path.{ap, _∙_}
 use mathlib.Core.List.{List}
 use Prim.Native.Nat.{ℕ}
 use lib.Dec.{leb}
-use Rattle.copy_row.specs.Calls.{opRecord}
-use Rattle.copy_row.specs.Rows.{bit}
-use Rattle.expansion_rows.specs.Rows.{callOf}
+use Rattle.words.specs.Words.{bit}
+use Rattle.call.specs.Calls.{callOf}
+use Rattle.call.specs.Ops.{opRecord}
 use Rattle.expansion_rows.proofs.turns.row_turn.Statement.{statement}
 use Rattle.expansion_rows.proofs.turns.row_turn.Tie as tie
 

@@ -2,7 +2,7 @@
 -- nothing.
 use borrow.Author.Needs.{needs}
 use denote.Ref.{now}
-use Rattle.expansion_rows.specs.Rows.{callOf}
+use Rattle.call.specs.Calls.{callOf}
 use Rattle.expansion_rows.proofs.OneTurn.{set-law, two-parts}
 use Rattle.expansion_rows.proofs.turns.set_turn.Statement.{statement}
 use Rattle.expansion_rows.proofs.turns.set_turn.Tie as tie

@@ -5,7 +5,7 @@ use native.Mathlib.Omega.{arith}
 use borrow.Author.Needs.{needs}
 use borrow.Author.Tests.{not-true, not-false}
 use denote.Ref.{now}
-use Rattle.records.specs.Lists.{first}
+use Rattle.lists.specs.Lists.{first}
 use Rattle.records.specs.Records.{recordCount, recordAt, firstBad}
 use Rattle.records.proofs.Records.{badAt, bad-start, bad-pass, bad-stop, bad-end, record-within}
 use Rattle.memw.specs.Tables.{recordWidth, goodRecord}

@@ -5,8 +5,8 @@ use native.Mathlib.Omega.{arith}
 use borrow.Author.Needs.{needs}
 use denote.Ref.{now}
 use lib.ListN.{length, replicate}
+use Rattle.lists.proofs.Flat.{row-within}
 use Rattle.records.specs.Records.{recordAt}
-use Rattle.records.proofs.Flat.{row-within}
 use Rattle.records.proofs.Records.{record-length}
 use Rattle.memw.specs.Tables.{recordWidth, recordRow}
 use Rattle.memw.proofs.AccessTables.{row-of-record, row-of-none}

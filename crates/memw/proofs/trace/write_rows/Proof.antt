@@ -6,9 +6,9 @@ use native.Mathlib.Omega.{arith}
 use borrow.Author.Needs.{needs}
 use denote.Ref.{now}
 use lib.ListN.{length, length-take, length-drop}
+use Rattle.lists.proofs.Flat.{row-within}
 use Rattle.records.specs.Records.{recordCount}
 use Rattle.records.specs.declared.TableAnswer.the-variants.{Made}
-use Rattle.records.proofs.Flat.{row-within}
 use Rattle.memw.specs.Tables.{rowWidth, memwAfter}
 use Rattle.memw.proofs.AccessTables.{record-width-bounds, no-rows, next-row, after-length}
 use Rattle.memw.proofs.trace.write_rows.Statement.{statement}

@@ -4,10 +4,9 @@ use mathlib.Core.Path.{_≡_}
 use mathlib.Core.List.{List, [], _∷_, _++_}
 use Prim.Native.Nat.{ℕ, _%_, _^_}
 use lib.Dec.{eqb}
-use Rattle.words.specs.Words.{words}
-use Rattle.copy_row.specs.Calls.{eightAt}
-use Rattle.copy_row.specs.Rows.{bit}
-use Rattle.copy_row.proofs.Ops.{numbersAt}
+use Rattle.lists.specs.Lists.{eightAt}
+use Rattle.lists.proofs.Numbers.{numbersAt}
+use Rattle.words.specs.Words.{words, bit}
 use Rattle.access.specs.Access.{Access}
 use Rattle.memw_rows.specs.Rows.{writeFlags, carries, stampWords, memwRow, operation}
 use Rattle.memw_rows.proofs.rows.memw_cells.Statement.{statement}

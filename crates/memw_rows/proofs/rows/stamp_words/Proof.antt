@@ -3,9 +3,9 @@ use borrow.Author.Needs.{needs}
 use mathlib.Core.Path.{_≡_}
 use mathlib.Core.List.{List, _++_}
 use Prim.Native.Nat.{ℕ}
+use Rattle.lists.specs.Lists.{at}
+use Rattle.lists.proofs.Numbers.{numbersAt}
 use Rattle.words.specs.Words.{words}
-use Rattle.copy_row.specs.Columns.{at}
-use Rattle.copy_row.proofs.Ops.{numbersAt}
 use Rattle.memw_rows.specs.Rows.{stampWords}
 use Rattle.memw_rows.proofs.rows.stamp_words.Statement.{statement}
 use Rattle.memw_rows.proofs.rows.stamp_words.Tie as tie

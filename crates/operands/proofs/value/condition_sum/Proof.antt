@@ -6,8 +6,9 @@ use Prim.Native.Nat.{_-_, _≤_, _<_}
 use native.Mathlib.Omega.{arith}
 use denote.Ref.{now}
 use lib.ListN.{length, getD}
+use Rattle.lists.specs.Lists.{at}
 use Rattle.field.specs.Field.{p}
-use Rattle.copy_row.specs.Columns.{at, COLUMNS}
+use Rattle.copy_row.specs.Columns.{COLUMNS}
 use Rattle.operands.specs.Operands.{sumP, conditionsInRow}
 use Rattle.operands.proofs.Every.{every-at}
 use Rattle.operands.proofs.Sums.{sum-none, sum-next, sum-end}

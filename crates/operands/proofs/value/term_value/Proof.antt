@@ -8,8 +8,9 @@ use denote.Ref.{now}
 use mir.Syntax.{w64}
 use mir.Val.{toZ, ofZ}
 use mir.Facts.{toZ-ofZ}
+use Rattle.lists.specs.Lists.{at}
 use Rattle.field.specs.Field.{mulP}
-use Rattle.copy_row.specs.Columns.{COLUMNS, at}
+use Rattle.copy_row.specs.Columns.{COLUMNS}
 use Rattle.operands.specs.Operands.{signedP, termValue, termInRow}
 use Rattle.operands.proofs.value.term_value.Statement.{statement}
 use Rattle.operands.proofs.value.term_value.Tie as tie

@@ -5,8 +5,8 @@ use Prim.Native.Nat.{_-_, _≤_, _<_}
 use native.Mathlib.Omega.{arith}
 use Rattle.field.specs.Field.{p}
 use Rattle.operands.specs.Operands.{termsValue}
-use Rattle.operands.proofs.Operands.{sum-few, sum-term}
 use Rattle.operands.proofs.Sums.{sum-none, sum-next, sum-end}
+use Rattle.operands.proofs.Operands.{sum-few, sum-term}
 use Rattle.operands.proofs.value.terms_value.Statement.{statement}
 use Rattle.operands.proofs.value.terms_value.Tie as tie
 

@@ -7,7 +7,8 @@ use native.Mathlib.Omega.{arith}
 use borrow.Author.Needs.{needs}
 use borrow.Author.Tests.{ltb-true, lt-ltb}
 use lib.ListN.{getD}
-use Rattle.copy_row.specs.Columns.{at, COLUMNS}
+use Rattle.lists.specs.Lists.{at}
+use Rattle.copy_row.specs.Columns.{COLUMNS}
 use Rattle.copy_residues.specs.Range.{columnLimits}
 use Rattle.plain_row.specs.Tests.{caps, Fits}
 use Rattle.plain_row.proofs.Booleans.{and-true, true-and}

@@ -4,11 +4,11 @@ use Prim.Native.Nat.{_-_, _≤_}
 use native.Mathlib.Omega.{arith}
 use borrow.Author.Needs.{needs}
 use denote.Ref.{now}
-use Rattle.records.specs.Lists.{counted}
-use Rattle.records.proofs.Flat.{counted-none, counted-le}
+use Rattle.lists.specs.Lists.{counted, oneMore}
+use Rattle.lists.proofs.Flat.{counted-none, counted-le}
+use Rattle.lists.proofs.Filled.{count-next}
 use Rattle.read_back.specs.ReadBack.{rowsIn, opensAt, callsCount}
-use Rattle.read_back.specs.Steps.{isOpening, oneMore}
-use Rattle.read_back.proofs.Filled.{count-next}
+use Rattle.read_back.specs.Steps.{isOpening}
 use Rattle.read_back.proofs.rows.calls_count.Statement.{statement}
 use Rattle.read_back.proofs.rows.calls_count.Tie as tie
 

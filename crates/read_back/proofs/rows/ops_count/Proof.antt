@@ -4,11 +4,11 @@ use Prim.Native.Nat.{_-_, _≤_}
 use native.Mathlib.Omega.{arith}
 use borrow.Author.Needs.{needs}
 use denote.Ref.{now}
-use Rattle.records.specs.Lists.{counted}
-use Rattle.records.proofs.Flat.{counted-none, counted-le}
+use Rattle.lists.specs.Lists.{counted, oneMore}
+use Rattle.lists.proofs.Flat.{counted-none, counted-le}
+use Rattle.lists.proofs.Filled.{count-next}
 use Rattle.read_back.specs.ReadBack.{rowsIn, liveAt, opsCount}
-use Rattle.read_back.specs.Steps.{isLive, oneMore}
-use Rattle.read_back.proofs.Filled.{count-next}
+use Rattle.read_back.specs.Steps.{isLive}
 use Rattle.read_back.proofs.rows.ops_count.Statement.{statement}
 use Rattle.read_back.proofs.rows.ops_count.Tie as tie
 

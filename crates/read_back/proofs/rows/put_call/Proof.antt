@@ -3,10 +3,11 @@ use mathlib.Core.Path.{refl, sym, ap, _∙_}
 use native.Mathlib.Omega.{arith}
 use borrow.Author.Needs.{needs}
 use denote.Ref.{now}
+use Rattle.lists.specs.Lists.{oneMore, placed}
+use Rattle.lists.proofs.Filled.{part-placed}
+use Rattle.call.specs.Flat.{callNumbers}
 use Rattle.copy_meaning.specs.ReadRow.{callAt}
-use Rattle.read_back.specs.ReadBack.{callNumbers}
-use Rattle.read_back.specs.Steps.{isOpening, oneMore, placed}
-use Rattle.read_back.proofs.Filled.{part-placed}
+use Rattle.read_back.specs.Steps.{isOpening}
 use Rattle.read_back.proofs.rows.put_call.Statement.{statement}
 use Rattle.read_back.proofs.rows.put_call.Tie as tie
 

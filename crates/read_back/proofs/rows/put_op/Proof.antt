@@ -3,10 +3,11 @@ use mathlib.Core.Path.{refl, sym, ap, _∙_}
 use native.Mathlib.Omega.{arith}
 use borrow.Author.Needs.{needs}
 use denote.Ref.{now}
-use Rattle.copy_row.specs.Calls.{opRecord}
+use Rattle.lists.specs.Lists.{oneMore, placed}
+use Rattle.lists.proofs.Filled.{part-placed}
+use Rattle.call.specs.Ops.{opRecord}
 use Rattle.copy_meaning.specs.ReadRow.{opAt}
-use Rattle.read_back.specs.Steps.{isLive, oneMore, placed}
-use Rattle.read_back.proofs.Filled.{part-placed}
+use Rattle.read_back.specs.Steps.{isLive}
 use Rattle.read_back.proofs.rows.put_op.Statement.{statement}
 use Rattle.read_back.proofs.rows.put_op.Tie as tie
 

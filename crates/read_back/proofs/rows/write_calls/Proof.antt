@@ -5,11 +5,12 @@ use Prim.Native.Nat.{ℕ, _-_, _≤_, _<_}
 use native.Mathlib.Omega.{arith}
 use borrow.Author.Needs.{needs}
 use denote.Ref.{now}
-use Rattle.records.specs.Lists.{store, picked}
+use Rattle.lists.specs.Lists.{store, picked, oneMore, placed}
+use Rattle.lists.proofs.Filled.{Filled, filled-start, filled-next, filled-room}
+use Rattle.call.specs.Flat.{callNumbers}
 use Rattle.copy_meaning.specs.ReadRow.{callAt}
-use Rattle.read_back.specs.ReadBack.{callNumbers, rowAt, rowsIn, opensAt, callsCount, readCalls}
-use Rattle.read_back.specs.Steps.{isOpening, oneMore, placed}
-use Rattle.read_back.proofs.Filled.{Filled, filled-start, filled-next, filled-room}
+use Rattle.read_back.specs.ReadBack.{rowAt, rowsIn, opensAt, callsCount, readCalls}
+use Rattle.read_back.specs.Steps.{isOpening}
 use Rattle.read_back.proofs.rows.write_calls.Statement.{statement}
 use Rattle.read_back.proofs.rows.write_calls.Tie as tie
 

@@ -5,12 +5,12 @@ use Prim.Native.Nat.{ℕ, _-_, _≤_, _<_}
 use native.Mathlib.Omega.{arith}
 use borrow.Author.Needs.{needs}
 use denote.Ref.{now}
-use Rattle.records.specs.Lists.{store, picked}
-use Rattle.copy_row.specs.Calls.{opRecord}
+use Rattle.lists.specs.Lists.{store, picked, oneMore, placed}
+use Rattle.lists.proofs.Filled.{Filled, filled-start, filled-next, filled-room}
+use Rattle.call.specs.Ops.{opRecord}
 use Rattle.copy_meaning.specs.ReadRow.{opAt}
 use Rattle.read_back.specs.ReadBack.{rowAt, rowsIn, liveAt, opsCount, readOps}
-use Rattle.read_back.specs.Steps.{isLive, oneMore, placed}
-use Rattle.read_back.proofs.Filled.{Filled, filled-start, filled-next, filled-room}
+use Rattle.read_back.specs.Steps.{isLive}
 use Rattle.read_back.proofs.rows.write_ops.Statement.{statement}
 use Rattle.read_back.proofs.rows.write_ops.Tie as tie
 

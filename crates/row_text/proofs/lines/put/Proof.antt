@@ -6,8 +6,8 @@ use native.Mathlib.Nat.{add-zero}
 use native.Mathlib.Omega.{arith}
 use borrow.Author.Needs.{needs}
 use lib.ListN.{length, drop, getD, set}
-use Rattle.records.specs.Lists.{store}
-use Rattle.records.proofs.Store.{store-turn, store-end}
+use Rattle.lists.specs.Lists.{store}
+use Rattle.lists.proofs.Store.{store-turn, store-end}
 use Rattle.row_text.proofs.lines.put.Statement.{statement}
 use Rattle.row_text.proofs.lines.put.Tie as tie
 

@@ -6,8 +6,8 @@ use mathlib.Core.List.{List}
 use native.Mathlib.Omega.{arith}
 use borrow.Author.Needs.{needs}
 use lib.ListN.{length, drop, length-set}
-use Rattle.records.specs.Lists.{store}
-use Rattle.records.proofs.Store.{store-none}
+use Rattle.lists.specs.Lists.{store}
+use Rattle.lists.proofs.Store.{store-none}
 use Rattle.row_text.specs.Rows.{fieldsText}
 use Rattle.row_text.proofs.Fields.{field-turn, field-end, field-length}
 use Rattle.row_text.proofs.lines.put_fields.Statement.{statement}

@@ -6,7 +6,7 @@ use mathlib.Core.List.{List}
 use native.Mathlib.Omega.{arith}
 use borrow.Author.Needs.{needs}
 use lib.ListN.{length}
-use Rattle.records.specs.Lists.{store}
+use Rattle.lists.specs.Lists.{store}
 use Rattle.row_text.proofs.Digits.{decimal-is, fewest-20}
 use Rattle.row_text.proofs.lines.put_number.Statement.{statement}
 use Rattle.row_text.proofs.lines.put_number.Tie as tie

@@ -7,8 +7,8 @@ use native.Mathlib.Nat.{sub-zero, zero-add}
 use native.Mathlib.Omega.{arith}
 use borrow.Author.Needs.{needs}
 use lib.ListN.{length, drop}
-use Rattle.records.specs.Lists.{store}
-use Rattle.records.proofs.Store.{store-none, length-store}
+use Rattle.lists.specs.Lists.{store}
+use Rattle.lists.proofs.Store.{store-none, length-store}
 use Rattle.row_text.specs.Rows.{rowsText}
 use Rattle.row_text.proofs.Wrote.{wrote, row-list, row-place, rows-end}
 use Rattle.row_text.proofs.lines.put_rows.Statement.{statement}

@@ -4,8 +4,8 @@ use mathlib.Core.Path.{_≡_, refl, sym, ap, _∙_}
 use Prim.Native.Nat.{ℕ, _+_, _-_, _≤_}
 use native.Mathlib.Omega.{arith}
 use lib.ListN.{length, drop, set, replicate, length-set}
-use Rattle.records.specs.Lists.{store}
-use Rattle.records.proofs.Store.{store-turn, store-end, store-all}
+use Rattle.lists.specs.Lists.{store}
+use Rattle.lists.proofs.Store.{store-turn, store-end, store-all}
 use Rattle.window.proofs.accesses.byte_words.Statement.{statement}
 use Rattle.window.proofs.accesses.byte_words.Tie as tie
 

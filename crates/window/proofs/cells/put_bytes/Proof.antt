@@ -6,7 +6,7 @@ use Prim.Native.Nat.{_+_, _-_, _≤_}
 use native.Mathlib.Nat.{add-zero}
 use denote.Ref.{now}
 use lib.ListN.{length, take, drop, length-set}
-use Rattle.records.specs.Lists.{store}
+use Rattle.lists.specs.Lists.{store}
 use Rattle.window.proofs.Window.{write-turn, write-end}
 use Rattle.window.proofs.cells.put_bytes.Statement.{statement}
 use Rattle.window.proofs.cells.put_bytes.Tie as tie

@@ -6,7 +6,7 @@ use Prim.Native.Nat.{_+_, _-_, _≤_}
 use native.Mathlib.Nat.{add-zero, sub-zero}
 use denote.Ref.{now}
 use lib.ListN.{length, replicate, length-set}
-use Rattle.records.specs.Lists.{store}
+use Rattle.lists.specs.Lists.{store}
 use Rattle.window.proofs.Window.{stamp-turn, stamp-end}
 use Rattle.window.proofs.cells.put_stamps.Statement.{statement}
 use Rattle.window.proofs.cells.put_stamps.Tie as tie

@@ -1,0 +1,5 @@
+pub mod Calls
+pub mod Ops
+pub mod Flat
+pub mod Cuts
+pub mod Instances

@@ -1,0 +1,117 @@
+-- Laws of `store`: what stands in a list after numbers were written into it, one by one or as a lent part that came back. A part that
+-- was lent from p to q and came back as xs leaves `take p l ++ (xs ++ drop (q - p) (drop p l))`; the laws are stated in that form.
+-- Assumes nothing.
+use mathlib.Core.Path.{_≡_, refl, sym, ap, _∙_}
+use mathlib.Core.List.{List, [], _∷_, _++_, append-nil, append-assoc}
+use Prim.Native.Nat.{ℕ, _+_, _-_, _≤_, _<_, zero, suc}
+use native.Mathlib.Nat.{add-zero}
+use native.Mathlib.Numerals.{add-one}
+use native.Mathlib.Omega.{arith}
+use lib.ListN.{length, take, drop, getD, set, length-set, length-drop, drop-of-length-le}
+use lib.Seq.{sets, sets-eq, drop-cons, length-take-le, getD-take, getD-drop, drop-drop, getD-set-same, getD-set-other}
+use Rattle.lists.specs.Lists.{store}
+
+-- Stores one by one
+
+pub store-none : (l : List ℕ) (i : ℕ) → store l i [] ≡ l
+unfolding store
+store-none l i = refl
+
+pub store-more : (l : List ℕ) (i v : ℕ) (vs : List ℕ) → store l i (v ∷ vs) ≡ store (set l i v) (i + 1) vs
+unfolding store
+store-more l i v vs = refl
+
+pub length-store : (l : List ℕ) (i : ℕ) (vs : List ℕ) → length (store l i vs) ≡ length l
+unfolding store
+length-store l i [] = refl
+length-store l i (v ∷ vs) = length-store (set l i v) (i + 1) vs ∙ length-set l i v
+
+-- what is stored in two runs, one behind the other
+pub store-append : (l : List ℕ) (i : ℕ) (xs ys : List ℕ) → store l i (xs ++ ys) ≡ store (store l i xs) (i + length xs) ys
+unfolding store
+store-append l i [] ys = rw add-zero
+store-append l i (x ∷ xs) ys =
+    let e : (i + 1) + length xs ≡ i + length (x ∷ xs) = omega arith in
+    store-append (set l i x) (i + 1) xs ys ∙ ap (λ (n : ℕ). store (store (set l i x) (i + 1) xs) n ys) e
+
+store-sets : (l : List ℕ) (i : ℕ) (vs : List ℕ) → store l i vs ≡ sets l i vs
+unfolding store
+store-sets l i [] = refl
+store-sets l i (v ∷ vs) = store-sets (set l i v) (i + 1) vs ∙ ap (λ (n : ℕ). sets (set l i v) n vs) (add-one i)
+
+-- where the run fits, it stands between what was before it and what was behind it
+pub store-eq : (l : List ℕ) (i : ℕ) (vs : List ℕ) → i + length vs ≤ length l → store l i vs ≡ take i l ++ vs ++ drop (i + length vs) l
+store-eq l i vs fits = store-sets l i vs ∙ sets-eq vs l i fits
+
+-- a run as long as the list replaces it
+pub store-all : (l vs : List ℕ) → length l ≡ length vs → store l 0 vs ≡ vs
+store-all l vs e =
+    store-eq l 0 vs (omega arith)
+    ∙ ap (λ (r : List ℕ). vs ++ r) (drop-of-length-le l {i = 0 + length vs} (omega arith))
+    ∙ append-nil vs
+
+-- one turn of a loop that stores src from index j on, i of whose numbers it has stored; and its end
+pub store-turn : (l src : List ℕ) (j i : ℕ) → i < length src → store (set l j (getD src i 0)) (j + 1) (drop (i + 1) src) ≡ store l j (drop i src)
+store-turn l src j i h = rw (add-one i, drop-cons src i 0, store-more)
+
+pub store-end : (l src : List ℕ) (j i : ℕ) → length src ≤ i → store l j (drop i src) ≡ l
+store-end l src j i h = rw (drop-of-length-le src h, store-none)
+
+-- Parts
+
+-- w numbers from index i on
+pub run-length : (l : List ℕ) (i w : ℕ) → i + w ≤ length l → length (take w (drop i l)) ≡ w
+run-length l i w h = length-take-le w (drop i l) (simp length-drop (omega arith))
+
+pub run-at : (l : List ℕ) (i w j : ℕ) → j < w → getD (take w (drop i l)) j 0 ≡ getD l (i + j) 0
+run-at l i w j h = getD-take w (drop i l) j 0 h ∙ getD-drop i l j 0
+
+-- a part of m numbers that was lent and came back as ys
+pub part-store : (l ys : List ℕ) (p m : ℕ) → length ys ≡ m → p + m ≤ length l → take p l ++ (ys ++ drop m (drop p l)) ≡ store l p ys
+part-store l ys p m e h =
+    ap (λ (r : List ℕ). take p l ++ (ys ++ r)) (drop-drop m p l ∙ ap (λ (n : ℕ). drop (p + n) l) (sym e))
+    ∙ sym (append-assoc (take p l) ys (drop (p + length ys) l))
+    ∙ sym (store-eq l p ys (omega arith))
+
+-- the part from p to q came back as xs, as long as it was lent
+pub part-back : (l xs : List ℕ) (p q : ℕ) → p ≤ q → q ≤ length l → length xs ≡ length (take (q - p) (drop p l))
+    → take p l ++ (xs ++ drop (q - p) (drop p l)) ≡ store l p xs
+part-back l xs p q up fits same = part-store l xs p (q - p) (same ∙ run-length l p (q - p) (omega arith)) (omega arith)
+
+pub part-length : (l xs : List ℕ) (p q : ℕ) → p ≤ q → q ≤ length l → length xs ≡ length (take (q - p) (drop p l))
+    → length (take p l ++ (xs ++ drop (q - p) (drop p l))) ≡ length l
+part-length l xs p q up fits same = ap length (part-back l xs p q up fits same) ∙ length-store l p xs
+
+-- a turn that lends that part, and goes on with ys behind it
+pub part-turn : (l xs ys : List ℕ) (p q : ℕ) → p ≤ q → q ≤ length l → length xs ≡ length (take (q - p) (drop p l))
+    → store (take p l ++ (xs ++ drop (q - p) (drop p l))) q ys ≡ store l p (xs ++ ys)
+part-turn l xs ys p q up fits same =
+    let n : length xs ≡ q - p = same ∙ run-length l p (q - p) (omega arith) in
+    let z : q ≡ p + length xs = omega arith in
+    ap (λ (r : List ℕ). store r q ys) (part-back l xs p q up fits same)
+    ∙ ap (λ (i : ℕ). store (store l p xs) i ys) z
+    ∙ sym (store-append l p xs ys)
+
+-- Single numbers after a store: before the run, behind it, in it
+
+pub store-below : (l vs : List ℕ) (a i : ℕ) → i < a → getD (store l a vs) i 0 ≡ getD l i 0
+unfolding store
+store-below l [] a i h = refl
+store-below l (v ∷ vs) a i h = store-below (set l a v) vs (a + 1) i (omega arith) ∙ getD-set-other l a i v 0 (λ q. omega arith)
+
+pub store-above : (l vs : List ℕ) (a i : ℕ) → a + length vs ≤ i → getD (store l a vs) i 0 ≡ getD l i 0
+unfolding store
+store-above l [] a i h = refl
+store-above l (v ∷ vs) a i h = store-above (set l a v) vs (a + 1) i (omega arith) ∙ getD-set-other l a i v 0 (λ q. omega arith)
+
+pub store-inside : (l vs : List ℕ) (a j : ℕ) → j < length vs → a + j < length l → getD (store l a vs) (a + j) 0 ≡ getD vs j 0
+unfolding store
+store-inside l [] a j h k = absurd (omega arith)
+store-inside l (v ∷ vs) a zero h k =
+    ap (λ (n : ℕ). getD (store (set l a v) (a + 1) vs) n 0) (add-zero a)
+    ∙ store-below (set l a v) vs (a + 1) a (omega arith)
+    ∙ getD-set-same l a v 0 (omega arith)
+store-inside l (v ∷ vs) a (suc j) h k =
+    let e : a + suc j ≡ a + 1 + j = omega arith in
+    ap (λ (n : ℕ). getD (store (set l a v) (a + 1) vs) n 0) e
+    ∙ store-inside (set l a v) vs (a + 1) j (omega arith) (omega (arith, length-set l a v))

@@ -1,0 +1,66 @@
+-- Lists that are read, filled and searched: the number in a place, what holds of all elements, what is stored where, what is joined, the
+-- lowest index that meets a test. Nothing here names a width, a table or a limit. Assumes nothing.
+use mathlib.Core.Path.{_≡_}
+use Prim.Native.Nat.{ℕ, zero, suc, _+_, _≤_, _<_, _*_}
+use mathlib.Core.Bool.{Bool, true, false, cond}
+use mathlib.Core.List.{List, [], _∷_, _++_}
+use lib.ListN.{set, getD}
+
+-- What a list has
+
+-- the number of a row or record in column c
+abbrev pub at : List ℕ → ℕ → ℕ
+at row c = getD row c 0
+
+-- the eight numbers of r from column c on
+abbrev pub eightAt : List ℕ → ℕ → List ℕ
+eightAt r c =
+    at r c ∷ at r (c + 1) ∷ at r (c + 2) ∷ at r (c + 3) ∷ at r (c + 4) ∷ at r (c + 5) ∷ at r (c + 6) ∷ at r (c + 7) ∷ []
+
+-- P of every element
+abbrev pub All {ℓ} : {A : Type ℓ} → (A → Type 0) → List A → Type 0
+All P [] = Unit {0}
+All P (x ∷ xs) = P x × All P xs
+
+-- What a loop writes
+
+-- l with the numbers vs stored one by one from index i on; all others keep their values
+unfoldable pub store : List ℕ → ℕ → List ℕ → List ℕ
+store l i [] = l
+store l i (v ∷ vs) = store (set l i v) (i + 1) vs
+
+-- the parts g 0, g 1, .. g (n - 1), joined
+unfoldable pub flat : (ℕ → List ℕ) → ℕ → List ℕ
+flat g zero = []
+flat g (suc n) = flat g n ++ g n
+
+-- the parts g k of those k below n that meet the test, joined
+unfoldable pub picked : (ℕ → Bool) → (ℕ → List ℕ) → ℕ → List ℕ
+picked test g n = flat (λ k. cond (test k) (g k) []) n
+
+-- how many k below n meet the test
+unfoldable pub counted : (ℕ → Bool) → ℕ → ℕ
+counted test zero = 0
+counted test (suc n) = cond (test n) (counted test n + 1) (counted test n)
+
+-- one more of j, if it is wanted
+abbrev pub oneMore : Bool → ℕ → ℕ
+oneMore wanted j = cond wanted (j + 1) j
+
+-- the buffer after a record of v numbers, if it is wanted, behind the j that it has
+abbrev pub placed : Bool → ℕ → ℕ → List ℕ → List ℕ → List ℕ
+placed wanted v j r buffer = cond wanted (store buffer (v * j) r) buffer
+
+-- What a loop looks for
+
+-- the lowest of the m numbers from k on that meets the test; k + m where none does
+unfoldable pub first : (ℕ → Bool) → ℕ → ℕ → ℕ
+first test k zero = k
+first test k (suc m) = cond (test k) k (first test (k + 1) m)
+
+-- r is the lowest of the m numbers from k on that meets the test, or k + m where none does; proofs/ shows it of `first test k m`
+pub record Lowest (test : ℕ → Bool) (k m r : ℕ) : Type 0 where
+  pub least : k ≤ r
+  pub most : r ≤ k + m
+  pub meets : r < k + m → test r ≡ true
+  pub before : (j : ℕ) → k ≤ j → j < r → test j ≡ false

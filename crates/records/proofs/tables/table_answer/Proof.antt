@@ -1,0 +1,45 @@
+-- `records::tables::table_answer` meets its contract, case by case. The product of row width and row count fits, since at most 2^20
+-- records have at most 2^20 rows. Assumes nothing.
+use mathlib.Core.Path.{sym, ap, _∙_}
+use Prim.Native.Nat.{_*_, _^_, _≤_, _<_}
+use native.Mathlib.Omega.{arith}
+use native.Mathlib.Nat.{mul-le-mul}
+use borrow.Author.Needs.{needs}
+use lib.Dec.{lit≤}
+use Rattle.records.specs.RowCount.{rowCount}
+use Rattle.records.specs.declared.TableAnswer.the-variants.{Made}
+use Rattle.records.proofs.RowCount.{row-count-le}
+use Rattle.records.proofs.Table.{answer-over, answer-bad, answer-short, answer-made}
+use Rattle.records.proofs.tables.table_answer.Statement.{statement}
+use Rattle.records.proofs.tables.table_answer.Tie as tie
+
+returns : tie.Need-returns
+returns c = sym (answer-over _ _ _ _ _ (c .if1 .taken))
+
+returns-2 : tie.Need-returns-2
+returns-2 c = sym (answer-bad _ _ _ _ _ (c .before .if1 .left) (c .if2 .taken))
+
+mul-if3 : tie.Need-mul-if3
+mul-if3 c =
+    let start = c .before .before .before in
+    let few : c .row-count .result ≤ 2 ^ 20 =
+    rw (c .row-count .ensures) (row-count-le (start .args .n) 20 (omega arith) (omega arith) (lit≤ tt)) in
+    let small : start .args .v * c .row-count .result ≤ 64 * 2 ^ 20 = mul-le-mul (start .pre .1) few in
+    omega arith
+
+returns-3 : tie.Need-returns-3
+returns-3 c =
+    let room : c .before .before .before .before .args .room < c .before .before .before .before .args .v * rowCount (c .before .before .before .before .args .n) =
+    rw (c .before .row-count .ensures) at (c .if3 .taken) in
+    sym (answer-short _ _ _ _ _ (c .before .before .before .if1 .left) (c .before .before .if2 .left) room)
+
+returns-4 : tie.Need-returns-4
+returns-4 c =
+    let room : c .before .before .before .before .args .v * rowCount (c .before .before .before .before .args .n) ≤ c .before .before .before .before .args .room =
+    rw (c .before .row-count .ensures) at (c .if3 .left) in
+    ap Made (c .before .row-count .ensures)
+    ∙ sym (answer-made _ _ _ _ _ (c .before .before .before .if1 .left) (c .before .before .if2 .left) room)
+
+pub table-answer-spec : {M : Type 1} → statement M
+table-answer-spec =
+    tie.close (tie.spec returns returns-2 (λ c κs. search needs) mul-if3 returns-3 returns-4)
