@@ -1,3 +1,4 @@
 pub mod Ops
+pub mod GoodCalls
 pub mod Cuts
 pub mod Instances

@@ -19,9 +19,9 @@ callNumbers c = c .kind ∷ c .stamp ∷ c .src ∷ c .dst ∷ c .count ∷ []
 abbrev pub HANDED-WIDTH : ℕ
 HANDED-WIDTH = 5
 
--- the call in the first of these
-abbrev pub firstCall : List ℕ → Call
-firstCall l = record { kind = at l 0; stamp = at l 1; src = at l 2; dst = at l 3; count = at l 4 }
+-- the call in these
+abbrev pub callFrom : List ℕ → Call
+callFrom r = record { kind = at r 0; stamp = at r 1; src = at r 2; dst = at r 3; count = at r 4 }
 
 -- the largest value of each of them: kinds are 0 to 2
 unfoldable pub callLimits : List ℕ

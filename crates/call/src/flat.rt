@@ -1,23 +1,20 @@
-// Internal to the workspace, not open to callers: calls in a flat list. Assumes nothing but what each `requires` says.
+// Internal to the workspace, not open to callers: the call in a record. Assumes nothing but what each `requires` says.
 ghost use mathlib.Core.Path.{_≡_};
-ghost use Prim.Native.Nat.{_+_, _*_, _≤_};
-ghost use lib.ListN.{length, drop};
+ghost use lib.ListN.{length};
 ghost use Rattle.call.specs.Calls.{callOf};
-ghost use Rattle.call.specs.Flat.{HANDED-WIDTH, firstCall};
+ghost use Rattle.call.specs.Flat.{HANDED-WIDTH, callFrom};
 use crate::CopyCall;
-use crate::HANDED_WIDTH;
 
-// Call `k` of a flat list: kind, stamp, src, dst, count.
-pub fn call_at(calls: &[u64], k: usize) -> CopyCall
-    requires { ⌜ HANDED-WIDTH * k + HANDED-WIDTH ≤ length (now calls) ⌝ }
-    ensures { λ r. ⌜ callOf r ≡ firstCall (drop (HANDED-WIDTH * k) (now (calls .entry))) ⌝ }
+// The call in the numbers that are handed in: kind, stamp, src, dst, count.
+pub fn call_from(call: &[u64]) -> CopyCall
+    requires { ⌜ length (now call) ≡ HANDED-WIDTH ⌝ }
+    ensures { λ r. ⌜ callOf r ≡ callFrom (now (call .entry)) ⌝ }
 {
-    let start = HANDED_WIDTH * k;
     CopyCall {
-        kind: calls[start],
-        timestamp: calls[start + 1],
-        src: calls[start + 2],
-        dst: calls[start + 3],
-        count: calls[start + 4],
+        kind: call[0],
+        timestamp: call[1],
+        src: call[2],
+        dst: call[3],
+        count: call[4],
     }
 }

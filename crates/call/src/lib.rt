@@ -4,6 +4,7 @@ pub mod flat;
 ghost use mathlib.Core.Path.{_≡_};
 ghost use Rattle.call.specs.Calls.{kindNumber, kindOf};
 ghost use Rattle.call.specs.Ops.{goodOp};
+ghost use Rattle.call.specs.Flat.{goodCall};
 use records::tables::within_limits;
 
 // Which functionality a row is running: document 01's kind.
@@ -84,3 +85,20 @@ pub fn good_op(op: &[u64]) -> bool
 pub const CALL_WIDTH: usize = 5;
 
 pub const HANDED_WIDTH: usize = 5;
+
+// The largest value of each number of a call that is handed in.
+const CALL_LIMITS: [u64; 5] = [
+    2,
+    0xffff_ffff_ffff_ffff,
+    0xffff_ffff_ffff_ffff,
+    0xffff_ffff_ffff_ffff,
+    0xffff_ffff_ffff_ffff,
+];
+
+// Whether a record is a whole call and each field is among its values.
+pub fn good_call(call: &[u64]) -> bool
+    ensures { λ r. ⌜ r ≡ goodCall (now (call .entry)) ⌝ }
+{
+    let limits = CALL_LIMITS;
+    within_limits(call, &limits)
+}

@@ -10,10 +10,10 @@ use Rattle.records.specs.Table.{tableAnswer, rowAt, tableAfter}
 use Rattle.call.specs.Ops.{opLimits}
 use Rattle.window.specs.Window.{cellsAt, writeBytes, writeStamps}
 use Rattle.expansion_rows.specs.Rows.{copyRowWidth, rowsWithin, rowsFrom}
-use Rattle.expansion_rows.specs.Turns.{turnBytes, turnStamps, rowOps, passBytes, passStamps}
-use Rattle.expansion_rows.specs.Held.{heldAllBytes, heldAllStamps}
-use Rattle.expansion.specs.Refusals.{refusals, expansionAnswer}
-use Rattle.expansion.specs.Expansion.{callOps, callBytes, callStamps}
+use Rattle.expansion_rows.specs.Turns.{turnBytes, turnStamps, rowOps, passBytes, passStamps, passAccesses, turnAccesses}
+use Rattle.expansion_rows.specs.Held.{heldAllBytes, heldAllStamps, heldAccesses}
+use Rattle.expansion.specs.Refusals.{refusals, answerBy}
+use Rattle.expansion.specs.Expansion.{callOps, callBytes, callStamps, callAccesses, expanded, lentAfter}
 use Rattle.copy_row.specs.Rows.{rowOf, paddingRow}
 use Rattle.copy_row.specs.Trace.{copyAnswer, copyAfter}
 use Rattle.copy_residues.specs.Range.{columnLimits, firstLarge, firstOut}
@@ -25,6 +25,7 @@ use Rattle.line_text.specs.Pieces.{indexOf, before, after, same}
 use Rattle.line_text.specs.Numbers.{isDigit, allDigits, decimalFrom, isNumber, numberOf}
 use Rattle.line_text.specs.Lines.{onto, lines, wordOf, gapOf, callOf}
 use Rattle.row_text.specs.Rows.{digitsBy, decimalText, fieldsText, kindText, rowText, rowsText, passedText, refusedText}
+use Rattle.calls_in_turn.specs.InTurn.{leaves}
 use Rattle.call_lines.specs.Run.{linesFrom}
 use Rattle.call_lines.specs.Output.{tableOf, verdictOf, endingText, outputOf}
 use Rattle.call_lines.specs.Examples.{Examples}
@@ -35,7 +36,7 @@ unfolding flatMap addP subP mulP bitP carryP carryLow carryHigh store flat first
     decrLow decrHigh resLow resHigh gapLow gapHigh borrow impliesMu oneHot firstWrite gatedBit dstResNonWrite singleLane borrowImplies
     borrowImpliesZero endImplies muComIs muComWideIs noWrap gapNoWrap residue firstResidue rowFault link.same link.linked link.before
     chain.rowsFrom chain.chainFrom chain.chainAnswer cellsAt writeBytes writeStamps copyRowWidth rowsWithin rowsFrom turnBytes turnStamps
-    rowOps passBytes passStamps heldAllBytes heldAllStamps refusals expansionAnswer callOps callBytes callStamps
+    rowOps passBytes passStamps heldAllBytes heldAllStamps refusals answerBy callOps callBytes callStamps callAccesses turnAccesses passAccesses heldAccesses expanded lentAfter leaves
     indexOf before after same isDigit allDigits decimalFrom isNumber numberOf onto lines wordOf gapOf callOf digitsBy decimalText
     fieldsText kindText rowText rowsText passedText refusedText linesFrom tableOf verdictOf endingText outputOf
 examples =

@@ -1,5 +1,4 @@
 pub mod OneLine
-pub mod Accepted
 pub mod Turns
 pub mod Printed
 pub mod Lengths

@@ -1,20 +1,20 @@
--- The expansion's 9 says that the live rows are past 32: where the records of a call fit, so do its accesses, of which a row has at most
--- two. Assumes nothing.
+-- 9 is for live rows past 32, and for nothing else: a row has at most two accesses, so their room is never what is short. Assumes nothing.
 use mathlib.Core.Path.{_≡_, refl}
 use mathlib.Core.Bool.{Bool, true, false, cond, _||_}
-use Prim.Native.Nat.{ℕ, zero, suc, _+_, _-_, _*_, _≤_, _<_}
+use Prim.Native.Nat.{ℕ, zero, suc, _+_, _*_, _≤_, _<_}
 use native.Mathlib.Omega.{arith}
-use borrow.Author.Tests.{ltb-true, ltb-false, eq-eqb, ne-eqb}
+use borrow.Author.Tests.{eq-eqb, ne-eqb, ltb-true, ltb-false}
 use lib.Dec.{eqb, ltb}
 use lib.ListN.{length}
+use Rattle.answer.specs.Numbers.{accepted}
+use Rattle.answer.proofs.Refusals.{holds-of}
 use Rattle.call.specs.Calls.{Call}
 use Rattle.expansion_rows.specs.Rows.{rowsOf}
 use Rattle.expansion_rows.proofs.RowList.{rows-none}
-use Rattle.expansion.specs.Refusals.{opCount, accessCount, gapTooLarge, badWindow, lastStamp, notGapApart, pastIndex, outsideWindow, bufferShort, refusals, expansionAnswer, expansionNumbers}
-use Rattle.expansion.specs.declared.ExpansionAnswer.{ExpansionAnswer}
-use Rattle.expansion.specs.declared.ExpansionAnswer.the-variants.{Expanded, GapTooLarge, BadWindow, LastStamp, NotGapApart, PastIndex, OutsideWindow, BufferShort}
-use Rattle.call_lines.specs.Run.{OPS-ROOM, ACCESSES-ROOM, answered, NineIsRows}
-use Rattle.call_lines.proofs.Accepted.{room}
+use Rattle.expansion.specs.Tries.{under, Lengths, lengths}
+use Rattle.expansion.specs.Refusals.{opCount, accessCount, bufferShort, refusals, answerBy}
+use Rattle.expansion.proofs.Judged.{accepted-fair}
+use Rattle.call_lines.specs.Run.{ROWS, NineIsRows}
 
 -- a row has at most two accesses
 accesses-few : (c : Call) → accessCount c ≤ 2 * opCount c
@@ -28,51 +28,18 @@ accesses-few c = go (c .count) refl
     go zero z = rw (eq-eqb (c .count) 0 z, rows-none c 1 z) (omega (arith, most (eqb (c .kind) 2) 0))
     go (suc n) z = rw (ne-eqb (c .count) 0 (λ e. omega arith)) (most (eqb (c .kind) 2) (length (rowsOf c)))
 
-abbrev numberOf : ExpansionAnswer → ℕ
-numberOf a = expansionNumbers a .answer .number
-
--- the last refusal of all has the number 9, and no other has
-last-of-all : (t₇ t₈ t₁ t₃ t₅ t₂ t₉ : Bool) (n m : ℕ)
-    → numberOf
-    (cond t₇ GapTooLarge
-    (cond t₈ BadWindow
-    (cond t₁ LastStamp
-    (cond t₃ NotGapApart
-    (cond t₅ PastIndex
-    (cond t₂ OutsideWindow
-    (cond t₉ BufferShort (Expanded n m))))))))
-    ≡ 9
-    → t₉ ≡ true
-last-of-all true t₈ t₁ t₃ t₅ t₂ t₉ n m e = absurd (omega arith)
-last-of-all false true t₁ t₃ t₅ t₂ t₉ n m e = absurd (omega arith)
-last-of-all false false true t₃ t₅ t₂ t₉ n m e = absurd (omega arith)
-last-of-all false false false true t₅ t₂ t₉ n m e = absurd (omega arith)
-last-of-all false false false false true t₂ t₉ n m e = absurd (omega arith)
-last-of-all false false false false false true t₉ n m e = absurd (omega arith)
-last-of-all false false false false false false true n m e = refl
-last-of-all false false false false false false false n m e = absurd (omega arith)
-
-short : (gap : ℕ) (c : Call) (cells stamped opsRoom accessesRoom : ℕ)
-    → numberOf (expansionAnswer 65536 gap c cells stamped opsRoom accessesRoom) ≡ 9
-    → bufferShort (opCount c) (accessCount c) opsRoom accessesRoom ≡ true
-unfolding expansionAnswer refusals
-short gap c cells stamped opsRoom accessesRoom =
-    last-of-all (gapTooLarge gap) (badWindow 65536 cells stamped) (lastStamp c) (notGapApart gap c) (pastIndex c) (outsideWindow c cells)
-    (bufferShort (opCount c) (accessCount c) opsRoom accessesRoom) (opCount c) (accessCount c)
+-- where 9 is answered a buffer is short
+nine-short : (gap : ℕ) (c : Call) (n : Lengths) → answerBy (under gap) c n .number ≡ 9 → bufferShort (opCount c) (accessCount c) n ≡ true
+unfolding answerBy refusals
+nine-short gap c n e = holds-of 9 (refusals (under gap) c n) (accepted (opCount c)) refl e
 
 pub nine-is-rows : NineIsRows
-nine-is-rows gap rows c s whole few = (past, λ e. omega (arith, room gap c s e .fits))
+nine-is-rows gap rows c l ops-room accesses-room few =
+    (λ e. past _ _ refl refl (nine-short gap c (lengths l) e), λ e. omega (arith, accepted-fair (under gap) c (lengths l) e .1 .ops))
   where
-    either : (a b : Bool) → ltb (OPS-ROOM - length (s .records)) (16 * opCount c) ≡ a → ltb ACCESSES-ROOM (29 * accessCount c) ≡ b
-        → (a || b) ≡ true → 32 < rows + opCount c
-    either true b e f h = omega (arith, ltb-true (OPS-ROOM - length (s .records)) (16 * opCount c) e)
-    either false true e f h =
-        let ops-fit = ltb-false (OPS-ROOM - length (s .records)) (16 * opCount c) e in
-        let accesses-long = ltb-true ACCESSES-ROOM (29 * accessCount c) f in
-        omega (arith, accesses-few c)
-    either false false e f h = let z : _≡_ {A = ℕ} 0 1 = cc in absurd (omega arith)
-
-    past : answered gap c s .number ≡ 9 → 32 < rows + opCount c
-    past e =
-        either _ _ refl refl
-        (short gap c (length (s .bytes)) (length (s .stamps)) (OPS-ROOM - length (s .records)) ACCESSES-ROOM e)
+    past : (a b : Bool) → ltb (length (l .ops)) (16 * opCount c) ≡ a → ltb (length (l .accesses)) (29 * accessCount c) ≡ b
+        → (a || b) ≡ true → ROWS < rows + opCount c
+    past true b e f h = omega (arith, ltb-true (length (l .ops)) (16 * opCount c) e)
+    past false true e f h =
+        omega (arith, ltb-false (length (l .ops)) (16 * opCount c) e, ltb-true (length (l .accesses)) (29 * accessCount c) f, accesses-few c)
+    past false false e f h = let z : _≡_ {A = ℕ} 0 1 = cc in absurd (omega arith)

@@ -2,18 +2,20 @@
 -- call before it left, so by demand 3 the table made of them passes; and 32 records fit into its 32 rows. Assumes nothing.
 use mathlib.Core.Path.{_≡_, refl, sym, ap, _∙_, subst}
 use mathlib.Core.Bool.{Bool, true, false, cond}
-use mathlib.Core.List.{List, [], _∷_, _++_, map, flatMap, append-nil, append-assoc}
+use mathlib.Core.List.{List, [], _∷_, _++_, map, flatMap}
 use mathlib.Core.Option.{none}
-use Prim.Native.Nat.{ℕ, _+_, _-_, _*_, _/_, _^_, _≤_, _<_}
+use Prim.Native.Nat.{ℕ, _+_, _*_, _/_, _^_, _≤_, _<_}
 use native.Mathlib.Omega.{arith}
-use borrow.Author.Tests.{le-leb, le-ltb, eq-eqb, eqb-true}
+use borrow.Author.Tests.{le-leb, le-ltb}
 use lib.Dec.{eqb}
-use lib.ListN.{length, take, replicate, length-append, length-replicate}
+use lib.ListN.{length, take, replicate}
 use lib.Seq.{length-take-le}
 use Rattle.answer.specs.Numbers as numbers
+use Rattle.answer.specs.Numbers.{accepted}
 use Rattle.answer.specs.declared.Answer.{Answer}
-use Rattle.answer.proofs.Parts.{number-same}
 use Rattle.lists.specs.Lists.{All}
+use Rattle.lists.proofs.Joined.{flatMap-length}
+use Rattle.records.specs.Records.{LIMIT}
 use Rattle.records.specs.RowCount.{rowCount}
 use Rattle.records.specs.Table.{tableNumbers}
 use Rattle.records.specs.declared.TableAnswer.{TableAnswer}
@@ -22,163 +24,99 @@ use Rattle.records.proofs.RowCount.{row-count-le}
 use Rattle.call.specs.Calls.{Op, callWith}
 use Rattle.call.specs.Calls as calls
 use Rattle.call.specs.Ops.{opRecord, OP-WIDTH}
-use Rattle.call.specs.Cuts.{opsOf}
-use Rattle.call.specs.declared.Functionality.{Functionality}
+use Rattle.call.specs.Cuts.{opsOf, Words}
 use Rattle.expansion_rows.proofs.HeldOps.{bytes-zeros}
-use Rattle.expansion_cut.specs.Pieces.{Bytes}
-use Rattle.expansion.specs.Refusals.{expansionNumbers, expansionAnswer}
-use Rattle.expansion.specs.Expansion.{callOps, lent}
-use Rattle.expansion.proofs.CallBytes.{call-bytes}
+use Rattle.expansion.specs.Tries.{Try, Typed, Setting, under, Lent, tryOf}
+use Rattle.expansion.specs.Refusals.{answered}
 use Rattle.copy_row.specs.Columns.{COLUMNS}
 use Rattle.copy_row.specs.Trace.{copyAnswer, copyAfter}
 use Rattle.copy_row.proofs.CopyTable.{after-length}
 use Rattle.copy_meaning.specs.Steps.{LiveStep}
 use Rattle.calls.proofs.Chained.{chain}
 use Rattle.chain.specs.Chain.{chainAnswer, chainNumbers}
-use Rattle.demand.specs.Demand.{Passes, Try, Typed, accepted, opsWritten, acceptedOps}
-use Rattle.demand.specs.Demand as demand
-use Rattle.demand.proofs.RowLists.{flatMap-length}
-use Rattle.demand.proofs.Whole.{steps}
-use Rattle.demand.proofs.GoodRecords.{records-wide, maker-answer}
-use Rattle.demand.proofs.AcceptedCalls.{ops-written}
-use Rattle.demand.proofs.Accepted.{cutTry, tries-fit, tries-wrote}
-use Rattle.demand.proofs.Demand.{demand3}
 use Rattle.line_text.specs.Pieces.{after}
 use Rattle.line_text.specs.Lines.{lines, callOf}
 use Rattle.line_text.specs.declared.Line.{Line}
 use Rattle.line_text.specs.declared.Line.the-variants.{Call, Other}
 use Rattle.row_text.specs.Rows.{rowsText, passedText}
-use Rattle.call_lines.specs.Run.{Run, Ending, done, refused, OPS-ROOM, ACCESSES-ROOM, answered, ranOf, onAnswer, onLine, linesFrom}
+use Rattle.calls_in_turn.specs.Accepted.{opsWritten, acceptedOps, acceptedOf}
+use Rattle.calls_in_turn.specs.InTurn.{leaves, triesOf}
+use Rattle.calls_in_turn.proofs.Written.{ops-more}
+use Rattle.calls_in_turn.proofs.Counted.{records-fit}
+use Rattle.calls_in_turn.proofs.Typed.{tries-typed}
+use Rattle.demand.specs.Demand.{Passes}
+use Rattle.demand.proofs.Whole.{steps}
+use Rattle.demand.proofs.GoodRecords.{records-wide, maker-answer}
+use Rattle.demand.proofs.Accepted.{cutTry, tries-fit, tries-wrote}
+use Rattle.demand.proofs.Demand.{demand3}
+use Rattle.call_lines.specs.Run.{Ending, done, refused, OPS-ROOM, onAnswer, onLine, linesFrom, inFront}
 use Rattle.call_lines.specs.Output.{TABLE-ROOM, tableOf, verdictOf, verdictText, endingText, start, VerdictPasses}
-use Rattle.call_lines.proofs.Accepted.{room, records-length}
 use Rattle.call_lines.proofs.Printed.{good-gap}
-use Rattle.call_lines.proofs.Typed.{call-below}
+use Rattle.call_lines.proofs.Typed.{call-words}
+use Rattle.call_lines.proofs.Typed.{call-words}
 
--- The accepted calls as demand 3 has them
+-- The calls of lines that are all accepted
 
-tryOf : Functionality → ℕ → ℕ → ℕ → ℕ → Run → Try
-tryOf kind stamp src dst count s =
-    record {
-      kind = kind;
-      stamp = stamp;
-      src = src;
-      dst = dst;
-      count = count;
-      slices = lent (s .bytes) (s .stamps) (replicate (OPS-ROOM - length (s .records)) 0) (replicate ACCESSES-ROOM 0);
-    }
-
-module _ (gap : ℕ) (kind : Functionality) (stamp src dst count : ℕ) (s : Run) where
-  abbrev c : calls.Call
-  c = callWith kind stamp src dst count
-
-  abbrev t : Try
-  t = tryOf kind stamp src dst count s
-
-  try-answered : demand.answered gap t ≡ answered gap c s
-  unfolding tryOf
-  try-answered =
-      ap
-      (λ (n : ℕ). expansionNumbers (expansionAnswer 65536 gap c (length (s .bytes)) (length (s .stamps)) n ACCESSES-ROOM) .answer)
-      (length-replicate {A = ℕ} (OPS-ROOM - length (s .records)) 0)
-
-  try-wrote : answered gap c s .number ≡ 0 → opsWritten gap t ≡ flatMap opRecord (callOps c (s .bytes))
-  unfolding tryOf
-  try-wrote e = ops-written 65536 gap c (t .slices) (number-same try-answered ∙ e)
-
--- one more accepted call in front
-accepted-more : (gap : ℕ) (t : Try) (tries : List Try) → demand.answered gap t .number ≡ 0
-    → acceptedOps gap (t ∷ tries) ≡ opsWritten gap t ++ acceptedOps gap tries
-unfolding flatMap
-accepted-more gap t tries e = rw (eq-eqb (demand.answered gap t .number) 0 e)
-
--- what the lines from a state on leave, where none is refused
-record Tried (gap : ℕ) (s : Run) (records : List ℕ) : Type 0 where
-  tries : List Try
-  typed : All Typed tries
-  wrote : records ≡ s .records ++ acceptedOps gap tries
-  fits : length records ≤ OPS-ROOM
+-- what lines that are not refused leave: the records of these calls, taken in turn
+record Tried (s : Setting) (l : Lent) (records : List ℕ) : Type 0 where
+  calls : List calls.Call
+  words : All Words calls
+  wrote : records ≡ acceptedOps s (triesOf s calls l)
 
 not-done : (n line : ℕ) (records : List ℕ) → refused n line ≡ done records → ⊥
 not-done n line records e = let z : _≡_ {A = ℕ} 0 1 = cc in omega arith
-
--- an answer after which the lines go on
-goes-on : (a : Answer) (line : ℕ) (next : Ending) (records : List ℕ) → onAnswer a line next ≡ done records
-    → (a .number ≡ 0) × (next ≡ done records)
-goes-on a line next records = go (eqb (a .number) 0) refl
-  where
-    go : (b : Bool) → eqb (a .number) 0 ≡ b → cond b next (refused (a .number) line) ≡ done records
-        → (a .number ≡ 0) × (next ≡ done records)
-    go true e f = (eqb-true (a .number) 0 e, f)
-    go false e f = absurd (not-done _ _ _ f)
 
 abbrev recordsOf : Ending → List ℕ
 recordsOf (done records) = records
 recordsOf (refused n line) = []
 
-none-left : (gap : ℕ) (s : Run) (records : List ℕ) → length (s .records) ≤ OPS-ROOM → s .records ≡ records → Tried gap s records
-unfolding flatMap
-none-left gap s records h e =
-    record {
-      tries = [];
-      typed = tt;
-      wrote = sym (append-nil (s .records) ∙ e);
-      fits = subst (λ (l : List ℕ). length l ≤ OPS-ROOM) e h;
-    }
-
-one-more : (gap : ℕ) (l : List ℕ) (kind : Functionality) (stamp src dst count : ℕ) (s : Run) (records : List ℕ)
-    → let c = callWith kind stamp src dst count in
-    callOf l ≡ Call kind stamp src dst count → Bytes (s .bytes) → answered gap c s .number ≡ 0 → Tried gap (ranOf c s) records
-    → Tried gap s records
-unfolding tryOf
-one-more gap l kind stamp src dst count s records e bytes taken later =
-    let t = tryOf kind stamp src dst count s in
-    let below = call-below l kind stamp src dst count e in
-    let c = callWith kind stamp src dst count in
-    let number : demand.answered gap t .number ≡ 0 = number-same (try-answered gap kind stamp src dst count s) ∙ taken in
-    record {
-      tries = t ∷ later .tries;
-      typed = (record { stamp = below .stamp; src = below .src; dst = below .dst; count = below .count; bytes = bytes }, later .typed);
-      wrote =
-          later .wrote
-          ∙ append-assoc (s .records) (flatMap opRecord (callOps c (s .bytes))) (acceptedOps gap (later .tries))
-          ∙ ap (λ (x : List ℕ). s .records ++ (x ++ acceptedOps gap (later .tries))) (sym (try-wrote gap kind stamp src dst count s taken))
-          ∙ ap (λ (x : List ℕ). s .records ++ x) (sym (accepted-more gap t (later .tries) number));
-      fits = later .fits;
-    }
-
-ran-fits : (gap : ℕ) (c : calls.Call) (s : Run) → answered gap c s .number ≡ 0 → length (s .records) ≤ OPS-ROOM
-    → length (ranOf c s .records) ≤ OPS-ROOM
-ran-fits gap c s e h = rw length-append (omega (arith, room gap c s e .fits, records-length c (s .bytes)))
-
-lines-tried : (gap line : ℕ) (ls : List (List ℕ)) (s : Run) (records : List ℕ) → Bytes (s .bytes) → length (s .records) ≤ OPS-ROOM
-    → linesFrom gap line ls s ≡ done records → Tried gap s records
-unfolding linesFrom
-lines-tried gap line [] s records b h e = none-left gap s records h (ap recordsOf e)
-lines-tried gap line (l ∷ ls) s records b h e =
-    go (callOf l) refl e (λ c g k. lines-tried gap (line + 1) ls (ranOf c s) records (call-bytes c (s .bytes) b) (ran-fits gap c s g h) k)
+-- an answer after which the lines go on
+goes-on : (a : Answer) (line : ℕ) (written : List ℕ) (next : Ending) (records : List ℕ) → onAnswer a line (inFront written next) ≡ done records
+    → (next ≡ done (recordsOf next)) × (records ≡ written ++ recordsOf next)
+goes-on a line written next records = go (eqb (a .number) 0) next
   where
-    go : (p : Line) → callOf l ≡ p
-        → onLine p line (λ c. onAnswer (answered gap c s) line (linesFrom gap (line + 1) ls (ranOf c s))) ≡ done records
-        → ((c : calls.Call) → answered gap c s .number ≡ 0 → linesFrom gap (line + 1) ls (ranOf c s) ≡ done records
-        → Tried gap (ranOf c s) records)
-        → Tried gap s records
+    go : (b : Bool) (next : Ending) → cond b (inFront written next) (refused (a .number) line) ≡ done records
+        → (next ≡ done (recordsOf next)) × (records ≡ written ++ recordsOf next)
+    go true (done more) e = (refl, sym (ap recordsOf e))
+    go true (refused n line) e = absurd (not-done _ _ _ e)
+    go false next e = absurd (not-done _ _ _ e)
+
+lines-tried : (s : Setting) (line : ℕ) (xs : List (List ℕ)) (l : Lent) (records : List ℕ) → linesFrom s line xs l ≡ done records → Tried s l records
+unfolding linesFrom triesOf flatMap
+lines-tried s line [] l records e = record { calls = []; words = tt; wrote = sym (ap recordsOf e) }
+lines-tried s line (x ∷ xs) l records e =
+    go (callOf x) refl e (λ c more k. lines-tried s (line + 1) xs (leaves s (tryOf c l)) more k)
+  where
+    go : (p : Line) → callOf x ≡ p
+        → onLine p line
+        (λ c. let t = tryOf c l in onAnswer (answered s t) line (inFront (opsWritten s t) (linesFrom s (line + 1) xs (leaves s t))))
+        ≡ done records
+        → ((c : calls.Call) (more : List ℕ) → linesFrom s (line + 1) xs (leaves s (tryOf c l)) ≡ done more → Tried s (leaves s (tryOf c l)) more)
+        → Tried s l records
     go Other q e later = absurd (not-done _ _ _ e)
     go (Call kind stamp src dst count) q e later =
         let c = callWith kind stamp src dst count in
-        let g = goes-on (answered gap c s) line (linesFrom gap (line + 1) ls (ranOf c s)) records e in
-        one-more gap l kind stamp src dst count s records q b (g .0) (later c (g .0) (g .1))
+        let t = tryOf c l in
+        let next = linesFrom s (line + 1) xs (leaves s t) in
+        let g = goes-on (answered s t) line (opsWritten s t) next records e in
+        let k = later c (recordsOf next) (g .0) in
+        record {
+          calls = c ∷ k .calls;
+          words = (call-words x kind stamp src dst count q, k .words);
+          wrote = g .1 ∙ ap (λ (y : List ℕ). opsWritten s t ++ y) (k .wrote) ∙ sym (ops-more s t (triesOf s (k .calls) (leaves s t)));
+        }
 
 -- The table of the accepted calls
 
-module _ (gap : ℕ) (g : gap < 2 ^ 32) (tries : List Try) (typed : All Typed tries) (short : length (acceptedOps gap tries) ≤ OPS-ROOM) where
+module _ (gap : ℕ) (g : gap < 2 ^ 32) (tries : List Try) (typed : All Typed tries) (short : length (acceptedOps (under gap) tries) ≤ OPS-ROOM) where
   abbrev records : List ℕ
-  records = acceptedOps gap tries
+  records = acceptedOps (under gap) tries
 
   abbrev ops : List Op
-  ops = opsOf (map cutTry (accepted gap tries))
+  ops = opsOf (map cutTry (acceptedOf (under gap) tries))
 
   live : All (LiveStep gap) ops
-  live = steps gap none ops (chain gap (map cutTry (accepted gap tries)) (tries-fit gap tries typed))
+  live = steps gap none ops (chain gap (map cutTry (acceptedOf (under gap) tries)) (tries-fit gap tries typed))
 
   count : length records ≡ OP-WIDTH * length ops
   count = ap length (tries-wrote gap tries typed) ∙ flatMap-length OP-WIDTH opRecord ops (records-wide gap ops live)
@@ -191,12 +129,12 @@ module _ (gap : ℕ) (g : gap < 2 ^ 32) (tries : List Try) (typed : All Typed tr
       let n : length ops ≤ 2 ^ 5 = omega (arith, count) in
       row-count-le (length ops) 5 (omega arith) n (omega arith)
 
-  made : copyAnswer 65536 records TABLE-ROOM ≡ Made rows
+  made : copyAnswer LIMIT records TABLE-ROOM ≡ Made rows
   made =
-      let n : length ops ≤ 65536 = omega (arith, count) in
-      ap (λ (l : List ℕ). copyAnswer 65536 l TABLE-ROOM) (tries-wrote gap tries typed)
-      ∙ maker-answer gap 65536 TABLE-ROOM ops live
-      ∙ rw (le-ltb 65536 (length ops) n, le-leb (COLUMNS * rows) TABLE-ROOM (omega (arith, few)))
+      let n : length ops ≤ LIMIT = omega (arith, count) in
+      ap (λ (l : List ℕ). copyAnswer LIMIT l TABLE-ROOM) (tries-wrote gap tries typed)
+      ∙ maker-answer gap LIMIT TABLE-ROOM ops live
+      ∙ rw (le-ltb LIMIT (length ops) n, le-leb (COLUMNS * rows) TABLE-ROOM (omega (arith, few)))
 
   abbrev table : List ℕ
   table = take (COLUMNS * rows) (copyAfter records (Made rows) (replicate TABLE-ROOM 0))
@@ -231,10 +169,11 @@ module _ (gap : ℕ) (g : gap < 2 ^ 32) (tries : List Try) (typed : All Typed tr
 pub verdict-passes : VerdictPasses
 unfolding endingText
 verdict-passes input records gap e g d =
-    let h = lines-tried gap 2 (lines (after 10 input)) start records (bytes-zeros 1024) (omega arith) d in
-    let same : records ≡ acceptedOps gap (h .tries) = h .wrote in
-    let line = verdict-line gap g (h .tries) (h .typed) (subst (λ (l : List ℕ). length l ≤ OPS-ROOM) same (h .fits)) in
+    let h = lines-tried (under gap) 2 (lines (after 10 input)) start records d in
+    let tries = triesOf (under gap) (h .calls) start in
+    let typed = tries-typed (under gap) (h .calls) start (h .words) (bytes-zeros 1024) in
+    let line = verdict-line gap g tries typed (records-fit (under gap) (h .calls) start) in
     sym (good-gap input gap e g)
     ∙ ap (endingText gap) d
     ∙ ap (λ (x : List ℕ). rowsText 0 (length records / OP-WIDTH) records ++ x)
-    (subst (λ (l : List ℕ). verdictText (verdictOf gap l) ≡ passedText (rowCount (length l / OP-WIDTH))) (sym same) line)
+    (subst (λ (l : List ℕ). verdictText (verdictOf gap l) ≡ passedText (rowCount (length l / OP-WIDTH))) (sym (h .wrote)) line)

@@ -7,7 +7,7 @@ use mathlib.Core.List.{List, [], _∷_}
 use Prim.Native.Nat.{ℕ, zero, suc, _+_, _-_, _*_, _^_, _≤_, _<_, min}
 use native.Mathlib.Nat.{sub-zero, zero-sub, suc-sub-suc}
 use native.Mathlib.Omega.{arith}
-use borrow.Author.Tests.{ltb-true, ltb-false, leb-true, leb-false, eqb-true}
+use borrow.Author.Tests.{ltb-true, ltb-false, leb-true, leb-false}
 use lib.Dec.{eqb, ltb, leb}
 use lib.ListN.{length, take, drop, length-take}
 use lib.Seq.{take-take, take-nil}
@@ -15,6 +15,10 @@ use Rattle.call.specs.Calls as calls
 use Rattle.call.specs.Calls.{callWith}
 use Rattle.call.specs.Ops.{OP-WIDTH}
 use Rattle.call.specs.declared.Functionality.{Functionality}
+use Rattle.expansion.specs.Tries.{Setting, under, Lent, Lengths, Try, tryOf}
+use Rattle.expansion.specs.Refusals.{answered}
+use Rattle.expansion.proofs.Outcome.{taken-try}
+use Rattle.expansion.proofs.Cut.{op-count-pos}
 use Rattle.line_text.specs.Pieces.{indexOf, before, after}
 use Rattle.line_text.specs.Lines.{lines, gapOf, callOf}
 use Rattle.line_text.specs.declared.Line.{Line}
@@ -23,9 +27,11 @@ use Rattle.line_text.specs.declared.Parsed.{Parsed}
 use Rattle.line_text.specs.declared.Parsed.the-variants.{Number, Bad}
 use Rattle.line_text.proofs.Pieces.{lines-first}
 use Rattle.row_text.specs.Rows.{refusedText}
-use Rattle.call_lines.specs.Run.{Run, refused, OPS-ROOM, answered, ranOf, onAnswer, onLine, linesFrom}
+use Rattle.calls_in_turn.specs.Accepted.{opsWritten}
+use Rattle.calls_in_turn.specs.InTurn.{leaves}
+use Rattle.calls_in_turn.proofs.Written.{taken-value, leaves-lengths}
+use Rattle.call_lines.specs.Run.{refused, inFront, onAnswer, onLine, linesFrom}
 use Rattle.call_lines.specs.Output.{endingText, start, onGap, outputOf, PrefixDecides}
-use Rattle.call_lines.proofs.Accepted.{room-falls}
 use Rattle.call_lines.proofs.Lengths.{index-le, call-long, gap-long}
 
 -- The first line of a prefix, and what is after it
@@ -67,72 +73,82 @@ module _ (n : ℕ) (l : List ℕ) (inside : indexOf 10 l < n) where
 -- One line, and two texts after it that come to the same
 
 module _
-    (gap line : ℕ) (s : Run) (l : List ℕ) (rest all : List (List ℕ))
-    (after-it : length l ≤ 89 → (c : calls.Call) → answered gap c s .number ≡ 0
-    → linesFrom gap (line + 1) rest (ranOf c s) ≡ linesFrom gap (line + 1) all (ranOf c s)) where
-  line-short : (kind : Functionality) (stamp src dst count : ℕ) → callOf l ≡ Call kind stamp src dst count → length l ≤ 89
-  line-short kind stamp src dst count e = go (leb (length l) 89) refl
+    (s : Setting) (line : ℕ) (l : Lent) (x : List ℕ) (rest all : List (List ℕ))
+    (after-it : length x ≤ 89 → (c : calls.Call) → eqb (answered s (tryOf c l) .number) 0 ≡ true
+    → linesFrom s (line + 1) rest (leaves s (tryOf c l)) ≡ linesFrom s (line + 1) all (leaves s (tryOf c l))) where
+  line-short : (kind : Functionality) (stamp src dst count : ℕ) → callOf x ≡ Call kind stamp src dst count → length x ≤ 89
+  line-short kind stamp src dst count e = go (leb (length x) 89) refl
     where
-      go : (t : Bool) → leb (length l) 89 ≡ t → length l ≤ 89
-      go true f = leb-true (length l) 89 f
+      go : (t : Bool) → leb (length x) 89 ≡ t → length x ≤ 89
+      go true f = leb-true (length x) 89 f
       go false f =
-          let other : callOf l ≡ Other = call-long l (leb-false (length l) 89 f) in
+          let other : callOf x ≡ Other = call-long x (leb-false (length x) 89 f) in
           let z : _≡_ {A = ℕ} 0 1 = cc in
           absurd (omega arith)
 
-  same-after : linesFrom gap line (l ∷ rest) s ≡ linesFrom gap line (l ∷ all) s
+  same-after : linesFrom s line (x ∷ rest) l ≡ linesFrom s line (x ∷ all) l
   unfolding linesFrom
-  same-after = go (callOf l) refl
+  same-after = go (callOf x) refl
     where
-      by-answer : (c : calls.Call) → length l ≤ 89 → (t : Bool) → eqb (answered gap c s .number) 0 ≡ t
-          → cond t (linesFrom gap (line + 1) rest (ranOf c s)) (refused (answered gap c s .number) line)
-          ≡ cond t (linesFrom gap (line + 1) all (ranOf c s)) (refused (answered gap c s .number) line)
-      by-answer c h true e = after-it h c (eqb-true (answered gap c s .number) 0 e)
+      by-answer : (c : calls.Call) → length x ≤ 89 → (b : Bool) → eqb (answered s (tryOf c l) .number) 0 ≡ b
+          → let t = tryOf c l in
+          cond b (inFront (opsWritten s t) (linesFrom s (line + 1) rest (leaves s t))) (refused (answered s t .number) line)
+          ≡ cond b (inFront (opsWritten s t) (linesFrom s (line + 1) all (leaves s t))) (refused (answered s t .number) line)
+      by-answer c h true e = ap (inFront (opsWritten s (tryOf c l))) (after-it h c e)
       by-answer c h false e = refl
 
-      go : (p : Line) → callOf l ≡ p
-          → onLine p line (λ c. onAnswer (answered gap c s) line (linesFrom gap (line + 1) rest (ranOf c s)))
-          ≡ onLine p line (λ c. onAnswer (answered gap c s) line (linesFrom gap (line + 1) all (ranOf c s)))
+      go : (p : Line) → callOf x ≡ p
+          → onLine p line
+          (λ c. let t = tryOf c l in onAnswer (answered s t) line (inFront (opsWritten s t) (linesFrom s (line + 1) rest (leaves s t))))
+          ≡ onLine p line
+          (λ c. let t = tryOf c l in onAnswer (answered s t) line (inFront (opsWritten s t) (linesFrom s (line + 1) all (leaves s t))))
       go Other e = refl
       go (Call kind stamp src dst count) e =
           let c = callWith kind stamp src dst count in
-          by-answer c (line-short kind stamp src dst count e) (eqb (answered gap c s .number) 0) refl
+          by-answer c (line-short kind stamp src dst count e) (eqb (answered s (tryOf c l) .number) 0) refl
 
 -- two first lines that are both too long are refused alike
-both-long : (gap line : ℕ) (s : Run) (l m : List ℕ) (ls ms : List (List ℕ)) → 89 < length l → 89 < length m
-    → linesFrom gap line (l ∷ ls) s ≡ linesFrom gap line (m ∷ ms) s
+both-long : (s : Setting) (line : ℕ) (l : Lent) (x y : List ℕ) (xs ys : List (List ℕ)) → 89 < length x → 89 < length y
+    → linesFrom s line (x ∷ xs) l ≡ linesFrom s line (y ∷ ys) l
 unfolding linesFrom
-both-long gap line s l m ls ms h k = rw (call-long l h, call-long m k)
+both-long s line l x y xs ys h k = rw (call-long x h, call-long y k)
+
+-- an accepted call takes at least a record's numbers of the room
+room-falls : (s : Setting) (t : Try) → eqb (answered s t .number) 0 ≡ true → length (leaves s t .ops) + OP-WIDTH ≤ length (t .slices .ops)
+room-falls s t e =
+    let k = taken-try s t e in
+    let left = ap (λ (n : Lengths). n .ops) (leaves-lengths s t) in
+    omega (arith, left, taken-value s t k, op-count-pos (t .call), k .room .ops)
 
 -- The call lines: 90 bytes for each row that there may still be, and for one line more
 
-calls-prefix : (m gap line n : ℕ) (l : List ℕ) (s : Run) → 90 * m ≤ n → OPS-ROOM - length (s .records) < OP-WIDTH * m
-    → linesFrom gap line (lines (take n l)) s ≡ linesFrom gap line (lines l) s
-calls-prefix zero gap line n l s h r = absurd (omega arith)
-calls-prefix (suc m) gap line zero l s h r = absurd (omega arith)
-calls-prefix (suc m) gap line (suc n) [] s h r = refl
-calls-prefix (suc m) gap line (suc n) (x ∷ xs) s h r =
-    ap (λ (ls : List (List ℕ)). linesFrom gap line ls s) (lines-first x (take n xs))
-    ∙ go (ltb (indexOf 10 (x ∷ xs)) (suc n)) refl (λ k ys later. calls-prefix m gap (line + 1) k ys later)
-    ∙ sym (ap (λ (ls : List (List ℕ)). linesFrom gap line ls s) (lines-first x xs))
+calls-prefix : (m : ℕ) (s : Setting) (line n : ℕ) (text : List ℕ) (l : Lent) → 90 * m ≤ n → length (l .ops) < OP-WIDTH * m
+    → linesFrom s line (lines (take n text)) l ≡ linesFrom s line (lines text) l
+calls-prefix zero s line n text l h r = absurd (omega arith)
+calls-prefix (suc m) s line zero text l h r = absurd (omega arith)
+calls-prefix (suc m) s line (suc n) [] l h r = refl
+calls-prefix (suc m) s line (suc n) (x ∷ xs) l h r =
+    ap (λ (ls : List (List ℕ)). linesFrom s line ls l) (lines-first x (take n xs))
+    ∙ go (ltb (indexOf 10 (x ∷ xs)) (suc n)) refl (λ k ys later. calls-prefix m s (line + 1) k ys later)
+    ∙ sym (ap (λ (ls : List (List ℕ)). linesFrom s line ls l) (lines-first x xs))
   where
     go : (t : Bool) → ltb (indexOf 10 (x ∷ xs)) (suc n) ≡ t
-        → ((k : ℕ) (ys : List ℕ) (later : Run) → 90 * m ≤ k → OPS-ROOM - length (later .records) < OP-WIDTH * m
-        → linesFrom gap (line + 1) (lines (take k ys)) later ≡ linesFrom gap (line + 1) (lines ys) later)
-        → linesFrom gap line (before 10 (take (suc n) (x ∷ xs)) ∷ lines (after 10 (take (suc n) (x ∷ xs)))) s
-        ≡ linesFrom gap line (before 10 (x ∷ xs) ∷ lines (after 10 (x ∷ xs))) s
+        → ((k : ℕ) (ys : List ℕ) (later : Lent) → 90 * m ≤ k → length (later .ops) < OP-WIDTH * m
+        → linesFrom s (line + 1) (lines (take k ys)) later ≡ linesFrom s (line + 1) (lines ys) later)
+        → linesFrom s line (before 10 (take (suc n) (x ∷ xs)) ∷ lines (after 10 (take (suc n) (x ∷ xs)))) l
+        ≡ linesFrom s line (before 10 (x ∷ xs) ∷ lines (after 10 (x ∷ xs))) l
     go true e shorter =
-        let l = x ∷ xs in
-        let near = ltb-true (indexOf 10 l) (suc n) e in
-        rw (before-take (suc n) l near, after-take (suc n) l near)
-        (same-after gap line s (before 10 l) _ _
+        let text = x ∷ xs in
+        let near = ltb-true (indexOf 10 text) (suc n) e in
+        rw (before-take (suc n) text near, after-take (suc n) text near)
+        (same-after s line l (before 10 text) _ _
         (λ short c accepted.
-        shorter (suc n - (indexOf 10 l + 1)) (after 10 l) (ranOf c s) (omega (arith, line-length l))
-        (omega (arith, room-falls gap c s accepted))))
+        shorter (suc n - (indexOf 10 text + 1)) (after 10 text) (leaves s (tryOf c l)) (omega (arith, line-length text))
+        (omega (arith, room-falls s (tryOf c l) accepted))))
     go false e shorter =
-        let l = x ∷ xs in
-        let far = ltb-false (indexOf 10 l) (suc n) e in
-        both-long gap line s _ _ _ _ (omega (arith, line-length (take (suc n) l), index-take 10 (suc n) l)) (omega (arith, line-length l))
+        let text = x ∷ xs in
+        let far = ltb-false (indexOf 10 text) (suc n) e in
+        both-long s line l _ _ _ _ (omega (arith, line-length (take (suc n) text), index-take 10 (suc n) text)) (omega (arith, line-length text))
 
 -- The whole input
 
@@ -150,7 +166,7 @@ prefix-decides n l h = go (ltb (indexOf 10 l) 25) refl
         let inside : indexOf 10 l < n = omega arith in
         rw (before-take n l inside, after-take n l inside)
         (same-gap (gapOf (before 10 l)) _ _
-        (λ gap. ap (endingText gap) (calls-prefix 33 gap 2 (n - (indexOf 10 l + 1)) (after 10 l) start (omega arith) (omega arith))))
+        (λ gap. ap (endingText gap) (calls-prefix 33 (under gap) 2 (n - (indexOf 10 l + 1)) (after 10 l) start (omega arith) (omega arith))))
     go false e =
         let far = ltb-false (indexOf 10 l) 25 e in
         let prefix = gap-long (before 10 (take n l)) (omega (arith, line-length (take n l), index-take 10 n l)) in

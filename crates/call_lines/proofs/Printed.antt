@@ -8,10 +8,12 @@ use borrow.Author.Tests.{le-leb, lt-leb, eq-eqb, ne-eqb}
 use lib.ListN.{length, take, replicate}
 use Rattle.answer.specs.declared.Answer.{Answer}
 use Rattle.lists.specs.Lists.{store}
+use Rattle.records.specs.Records.{LIMIT}
 use Rattle.records.specs.Table.{tableNumbers}
 use Rattle.records.specs.declared.TableAnswer.{TableAnswer}
 use Rattle.records.specs.declared.TableAnswer.the-variants.{Made, TooManyRecords, BadRecord, BufferShort}
 use Rattle.call.specs.Ops.{OP-WIDTH}
+use Rattle.expansion.specs.Tries.{under}
 use Rattle.copy_row.specs.Columns.{COLUMNS}
 use Rattle.copy_row.specs.Trace.{copyAnswer, copyAfter}
 use Rattle.copy_row.proofs.CopyTable.{made-facts}
@@ -21,7 +23,7 @@ use Rattle.line_text.specs.Lines.{lines, gapOf}
 use Rattle.line_text.specs.declared.Parsed.the-variants.{Number, Bad}
 use Rattle.row_text.specs.Rows.{rowsText, passedText, refusedText}
 use Rattle.row_text.proofs.Wrote.{Wrote}
-use Rattle.call_lines.specs.Run.{done, linesFrom, endingOf, liveRows}
+use Rattle.call_lines.specs.Run.{done, linesFrom, endingOf, liveRows, ROWS}
 use Rattle.call_lines.specs.Output.{TABLE-ROOM, tableOf, verdictOf, verdictText, endingText, start, outputOf}
 use Rattle.call_lines.specs.declared.Ran.{Ran}
 use Rattle.call_lines.specs.declared.Ran.the-variants.{Done, Refused}
@@ -29,18 +31,18 @@ use Rattle.call_lines.specs.declared.Ran.the-variants.{Done, Refused}
 -- The verdict
 
 -- the rows that are made fit into the table
-pub table-fits : (ops : List ℕ) (room : ℕ) → COLUMNS * tableNumbers 8 (copyAnswer 65536 ops room) .value ≤ room
-table-fits ops room = go (copyAnswer 65536 ops room) refl
+pub table-fits : (ops : List ℕ) (room : ℕ) → COLUMNS * tableNumbers 8 (copyAnswer LIMIT ops room) .value ≤ room
+table-fits ops room = go (copyAnswer LIMIT ops room) refl
   where
-    go : (a : TableAnswer) → copyAnswer 65536 ops room ≡ a → COLUMNS * tableNumbers 8 a .value ≤ room
+    go : (a : TableAnswer) → copyAnswer LIMIT ops room ≡ a → COLUMNS * tableNumbers 8 a .value ≤ room
     go (Made rows) e = made-facts 65536 ops room rows e .fits
     go TooManyRecords e = omega arith
     go (BadRecord place) e = omega arith
     go BufferShort e = omega arith
 
 pub verdict-is : (gap rows : ℕ) (ops table : List ℕ)
-    → rows ≡ tableNumbers 8 (copyAnswer 65536 ops TABLE-ROOM) .value
-    → table ≡ copyAfter ops (copyAnswer 65536 ops TABLE-ROOM) (replicate TABLE-ROOM 0)
+    → rows ≡ tableNumbers 8 (copyAnswer LIMIT ops TABLE-ROOM) .value
+    → table ≡ copyAfter ops (copyAnswer LIMIT ops TABLE-ROOM) (replicate TABLE-ROOM 0)
     → chainNumbers (chainAnswer gap (take (COLUMNS * rows - 0) table)) ≡ verdictOf gap ops
 unfolding verdictOf tableOf
 verdict-is gap rows ops table e f = rw (sub-zero, e, f)
@@ -69,18 +71,18 @@ unfolding endingText
 done-text gap ops a e = ap (λ (x : Answer). rowsText 0 (length ops / OP-WIDTH) ops ++ verdictText x) e
 
 -- the output for the call lines, by what they came to
-pub rows-most : (r : Ran) (rows : ℕ) → liveRows r ≤ 32 → r ≡ Done rows → rows ≤ 32
-rows-most r rows h q = subst (λ (x : Ran). liveRows x ≤ 32) q h
+pub rows-most : (r : Ran) (rows : ℕ) → liveRows r ≤ ROWS → r ≡ Done rows → rows ≤ ROWS
+rows-most r rows h q = subst (λ (x : Ran). liveRows x ≤ ROWS) q h
 
-module _ (gap : ℕ) (text ops : List ℕ) (r : Ran) (e : endingOf r ops ≡ linesFrom gap 2 (lines text) start) where
+module _ (gap : ℕ) (text ops : List ℕ) (r : Ran) (e : endingOf r ops ≡ linesFrom (under gap) 2 (lines text) start) where
   pub ran-done : (rows : ℕ) → r ≡ Done rows
-      → endingText gap (done (take (OP-WIDTH * rows - 0) ops)) ≡ endingText gap (linesFrom gap 2 (lines text) start)
+      → endingText gap (done (take (OP-WIDTH * rows - 0) ops)) ≡ endingText gap (linesFrom (under gap) 2 (lines text) start)
   ran-done rows q =
       ap (λ (n : ℕ). endingText gap (done (take n ops))) (sub-zero (OP-WIDTH * rows))
       ∙ ap (endingText gap) (sym (ap (λ (x : Ran). endingOf x ops) q) ∙ e)
 
   pub ran-refused : (number line : ℕ) → r ≡ Refused number line
-      → refusedText number line ≡ endingText gap (linesFrom gap 2 (lines text) start)
+      → refusedText number line ≡ endingText gap (linesFrom (under gap) 2 (lines text) start)
   unfolding endingText
   ran-refused number line q = ap (endingText gap) (sym (ap (λ (x : Ran). endingOf x ops) q) ∙ e)
 
@@ -96,6 +98,6 @@ module _ (input : List ℕ) where
   wide-gap gap e h = rw (e, le-leb (2 ^ 32) gap h)
 
   pub good-gap : (gap : ℕ) → gapOf (before 10 input) ≡ Number gap → gap < 2 ^ 32
-      → endingText gap (linesFrom gap 2 (lines (after 10 input)) start) ≡ outputOf input
+      → endingText gap (linesFrom (under gap) 2 (lines (after 10 input)) start) ≡ outputOf input
   unfolding outputOf
   good-gap gap e h = rw (e, lt-leb (2 ^ 32) gap h)

@@ -8,7 +8,10 @@ use borrow.Author.Tests.{ltb-true}
 use lib.Dec.{leb, ltb}
 use lib.ListN.{length}
 use Rattle.call.specs.Calls as calls
+use Rattle.call.specs.Calls.{callWith}
+use Rattle.call.specs.Cuts.{Words}
 use Rattle.call.specs.declared.Functionality.{Functionality}
+use Rattle.call.proofs.GoodCalls.{kind-small}
 use Rattle.line_text.specs.Pieces.{before, after}
 use Rattle.line_text.specs.Numbers.{TOP, isNumber, allDigits, decimalFrom, numberOf}
 use Rattle.line_text.specs.Lines.{wordOf, withKind, withNumber, callOf}
@@ -32,13 +35,7 @@ number-below l v h = go (leb 1 (length l)) (leb (length l) 20) (allDigits l) (lt
     go true true true false e h = let z : _≡_ {A = ℕ} 0 1 = cc in absurd (omega arith)
     go true true true true e h = let q : decimalFrom 0 l ≡ v = cc in omega (arith, ltb-true (decimalFrom 0 l) TOP e)
 
--- the numbers of a call line
-pub record Below (t s d n : ℕ) : Type 0 where
-  pub stamp : t < 2 ^ 64
-  pub src : s < 2 ^ 64
-  pub dst : d < 2 ^ 64
-  pub count : n < 2 ^ 64
-
+-- a call line
 module _ (l : List ℕ) (kind : Functionality) (stamp src dst count : ℕ) where
   below-at : (w : Word) (a b c d : Parsed)
       → numberOf (before 9 (after 9 l)) ≡ a
@@ -47,7 +44,7 @@ module _ (l : List ℕ) (kind : Functionality) (stamp src dst count : ℕ) where
       → numberOf (after 9 (after 9 (after 9 (after 9 l)))) ≡ d
       → withKind w (λ k. withNumber a (λ t. withNumber b (λ s. withNumber c (λ e. withNumber d (λ n. Call k t s e n)))))
       ≡ Call kind stamp src dst count
-      → Below stamp src dst count
+      → Words (callWith kind stamp src dst count)
   below-at Unknown a b c d ea eb ec ed h = let z : _≡_ {A = ℕ} 0 1 = cc in absurd (omega arith)
   below-at (Known k) Bad b c d ea eb ec ed h = let z : _≡_ {A = ℕ} 0 1 = cc in absurd (omega arith)
   below-at (Known k) (Number t) Bad c d ea eb ec ed h = let z : _≡_ {A = ℕ} 0 1 = cc in absurd (omega arith)
@@ -59,12 +56,13 @@ module _ (l : List ℕ) (kind : Functionality) (stamp src dst count : ℕ) where
       let qe : e ≡ dst = cc in
       let qn : n ≡ count = cc in
       record {
+        kind = kind-small kind;
         stamp = omega (arith, number-below _ t ea);
         src = omega (arith, number-below _ s eb);
         dst = omega (arith, number-below _ e ec);
         count = omega (arith, number-below _ n ed);
       }
 
-  pub call-below : callOf l ≡ Call kind stamp src dst count → Below stamp src dst count
+  pub call-words : callOf l ≡ Call kind stamp src dst count → Words (callWith kind stamp src dst count)
   unfolding callOf
-  call-below h = below-at (wordOf (before 9 l)) _ _ _ _ refl refl refl refl h
+  call-words h = below-at (wordOf (before 9 l)) _ _ _ _ refl refl refl refl h

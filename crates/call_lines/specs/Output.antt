@@ -20,17 +20,19 @@ use Rattle.line_text.specs.Lines.{lines, gapOf}
 use Rattle.line_text.specs.declared.Parsed.{Parsed}
 use Rattle.line_text.specs.declared.Parsed.the-variants.{Number, Bad}
 use Rattle.row_text.specs.Rows.{rowsText, passedText, refusedText}
-use Rattle.call_lines.specs.Run.{Run, run, Ending, done, refused, linesFrom}
+use Rattle.records.specs.Records.{LIMIT}
+use Rattle.expansion.specs.Tries.{under, Lent, lent}
+use Rattle.call_lines.specs.Run.{ROWS, OPS-ROOM, ACCESSES-ROOM, Ending, done, refused, linesFrom}
 
 -- a table with room for 32 rows
 abbrev pub TABLE-ROOM : ℕ
-TABLE-ROOM = COLUMNS * 32
+TABLE-ROOM = COLUMNS * ROWS
 
 -- just the rows that the copy table's maker writes of these operation records
 unfoldable pub tableOf : List ℕ → List ℕ
 tableOf records =
-    take (COLUMNS * tableNumbers 8 (copyAnswer 65536 records TABLE-ROOM) .value)
-    (copyAfter records (copyAnswer 65536 records TABLE-ROOM) (replicate TABLE-ROOM 0))
+    take (COLUMNS * tableNumbers 8 (copyAnswer LIMIT records TABLE-ROOM) .value)
+    (copyAfter records (copyAnswer LIMIT records TABLE-ROOM) (replicate TABLE-ROOM 0))
 
 -- what the chain check answers of them under the gap
 unfoldable pub verdictOf : ℕ → List ℕ → Answer
@@ -46,9 +48,9 @@ unfoldable pub endingText : ℕ → Ending → List ℕ
 endingText gap (done records) = rowsText 0 (length records / OP-WIDTH) records ++ verdictText (verdictOf gap records)
 endingText gap (refused number line) = refusedText number line
 
--- a window of 1,024 zero cells, and no record yet
-abbrev pub start : Run
-start = run (replicate 1024 0) (replicate 1024 0) []
+-- a window of 1,024 zero cells, and two buffers
+abbrev pub start : Lent
+start = lent (replicate 1024 0) (replicate 1024 0) (replicate OPS-ROOM 0) (replicate ACCESSES-ROOM 0)
 
 -- goes on with the gap of line 1
 abbrev pub onGap : Parsed → (ℕ → List ℕ) → List ℕ
@@ -57,7 +59,7 @@ onGap Bad next = refusedText 10 1
 
 -- the whole output
 unfoldable pub outputOf : List ℕ → List ℕ
-outputOf input = onGap (gapOf (before 10 input)) (λ gap. endingText gap (linesFrom gap 2 (lines (after 10 input)) start))
+outputOf input = onGap (gapOf (before 10 input)) (λ gap. endingText gap (linesFrom (under gap) 2 (lines (after 10 input)) start))
 
 -- the first 2,995 bytes decide: an input that is longer has its lowest refused line among them
 abbrev pub PrefixDecides : Type 0
@@ -67,5 +69,5 @@ PrefixDecides = (n : ℕ) (input : List ℕ) → 2995 ≤ n → outputOf (take n
 abbrev pub VerdictPasses : Type 0
 VerdictPasses =
     (input records : List ℕ) (gap : ℕ) → gapOf (before 10 input) ≡ Number gap → gap < 2 ^ 32
-    → linesFrom gap 2 (lines (after 10 input)) start ≡ done records
+    → linesFrom (under gap) 2 (lines (after 10 input)) start ≡ done records
     → let rows = length records / OP-WIDTH in outputOf input ≡ rowsText 0 rows records ++ passedText (rowCount rows)

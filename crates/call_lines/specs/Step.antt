@@ -1,12 +1,11 @@
--- One line, over the window and the two buffers that are lent for it. The definition of the whole (Run, Output) has no buffers, only the
--- room in them; these are for the function that takes one line. Assumes nothing.
-use Prim.Native.Nat.{ℕ}
+-- One line over the four slices that are lent for it: definitions that the contract of an inner function cites. Assumes nothing.
 use mathlib.Core.Bool.{cond}
 use lib.Dec.{eqb}
 use Rattle.answer.specs.declared.Answer.{Answer}
 use Rattle.call.specs.Calls.{callWith}
-use Rattle.expansion.specs.Refusals.{expansionNumbers}
-use Rattle.expansion.specs.Expansion.{Lent, answerFor, lentAfter}
+use Rattle.expansion.specs.Tries.{Setting, Lent, tryOf}
+use Rattle.expansion.specs.Refusals.{answered}
+use Rattle.expansion.specs.Expansion.{lentAfter}
 use Rattle.line_text.specs.declared.Line.{Line}
 use Rattle.line_text.specs.declared.Line.the-variants.{Call, Other}
 use Rattle.call_lines.specs.declared.Step.{Step}
@@ -17,12 +16,11 @@ abbrev pub stepOf : Answer → Step
 stepOf a = cond (eqb (a .number) 0) (Rows (a .value)) (Stop (a .number))
 
 -- the line's answer: the expansion's, and 10 for another form
-abbrev pub lineStep : ℕ → Line → Lent → Step
-lineStep gap (Call kind stamp src dst count) l =
-    stepOf (expansionNumbers (answerFor 65536 gap (callWith kind stamp src dst count) l) .answer)
-lineStep gap Other l = Stop 10
+abbrev pub lineStep : Setting → Line → Lent → Step
+lineStep s (Call kind stamp src dst count) l = stepOf (answered s (tryOf (callWith kind stamp src dst count) l))
+lineStep s Other l = Stop 10
 
 -- the four slices afterwards
-abbrev pub lineAfter : ℕ → Line → Lent → Lent
-lineAfter gap (Call kind stamp src dst count) l = lentAfter 65536 gap (callWith kind stamp src dst count) l
-lineAfter gap Other l = l
+abbrev pub lineAfter : Setting → Line → Lent → Lent
+lineAfter s (Call kind stamp src dst count) l = lentAfter s (tryOf (callWith kind stamp src dst count) l)
+lineAfter s Other l = l

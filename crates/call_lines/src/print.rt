@@ -4,14 +4,17 @@ ghost use mathlib.Core.Path.{_≡_};
 ghost use Prim.Native.Nat.{_+_, _≤_};
 ghost use lib.ListN.{length};
 ghost use Rattle.lists.specs.Lists.{store};
+ghost use Rattle.expansion.specs.Tries.{under};
 ghost use Rattle.line_text.specs.Lines.{lines};
 ghost use Rattle.call_lines.specs.Run.{OPS-ROOM, done, linesFrom};
 ghost use Rattle.call_lines.specs.Output.{verdictOf, verdictText, endingText, start};
 use crate::Ran;
 use crate::run::run_lines;
 use answer::Answer;
+use call::OP_WIDTH;
 use chain::chain_check;
 use chain::chain_numbers;
+use copy_row::cols::NUM_COLUMNS;
 use copy_row::generate_copy_trace;
 use row_text::lines::put_passed;
 use row_text::lines::put_refused;
@@ -24,7 +27,7 @@ fn verdict(gap: u64, ops: &[u64]) -> Answer
     let mut table = [0u64; 1312];
     let made = generate_copy_trace(ops, &mut table);
     let rows = records::numbers(8, made).value as usize;
-    chain_numbers(chain_check(gap, &table[0..41 * rows]))
+    chain_numbers(chain_check(gap, &table[0..NUM_COLUMNS * rows]))
 }
 
 // The verdict's line: `passed` and the row count. A chain check that refuses, which it never does here, has no line of the input: 0.
@@ -45,7 +48,7 @@ fn put_done(out: &mut [u8], gap: u64, ops: &[u64]) -> usize
     ensures { λ r. ⌜ (r ≡ length (endingText gap (done (now (ops .entry))))) × (r ≤ 8192) ⌝ }
     ensures { λ _. ⌜ now (out .exit) ≡ store (now (out .entry)) 0 (endingText gap (done (now (ops .entry)))) ⌝ }
 {
-    let end = put_rows(out, ops.len() / 16, ops);
+    let end = put_rows(out, ops.len() / OP_WIDTH, ops);
     put_verdict(out, end, verdict(gap, ops))
 }
 
@@ -53,8 +56,8 @@ fn put_done(out: &mut [u8], gap: u64, ops: &[u64]) -> usize
 // call is refused for.
 pub fn put_calls(out: &mut [u8], gap: u64, text: &[u8]) -> usize
     requires { ⌜ 8192 ≤ length (now out) ⌝ }
-    ensures { λ r. ⌜ (r ≡ length (endingText gap (linesFrom gap 2 (lines (now (text .entry))) start))) × (r ≤ 8192) ⌝ }
-    ensures { λ _. ⌜ now (out .exit) ≡ store (now (out .entry)) 0 (endingText gap (linesFrom gap 2 (lines (now (text .entry))) start)) ⌝ }
+    ensures { λ r. ⌜ (r ≡ length (endingText gap (linesFrom (under gap) 2 (lines (now (text .entry))) start))) × (r ≤ 8192) ⌝ }
+    ensures { λ _. ⌜ now (out .exit) ≡ store (now (out .entry)) 0 (endingText gap (linesFrom (under gap) 2 (lines (now (text .entry))) start)) ⌝ }
 {
     let mut bytes = [0u8; 1024];
     let mut stamps = [0u64; 1024];
@@ -62,7 +65,7 @@ pub fn put_calls(out: &mut [u8], gap: u64, text: &[u8]) -> usize
     let mut accesses = [0u64; 1856];
     let ran = run_lines(gap, text, &mut bytes, &mut stamps, &mut ops, &mut accesses);
     match ran {
-        Ran::Done { rows } => put_done(out, gap, &ops[0..16 * rows]),
+        Ran::Done { rows } => put_done(out, gap, &ops[0..OP_WIDTH * rows]),
         Ran::Refused { number, line } => put_refused(out, 0, number, line),
     }
 }

@@ -1,14 +1,14 @@
 // Internal to the workspace, not open to callers: one call line, and all of them in turn. Assumes nothing but what each `requires` says.
 ghost use mathlib.Core.Path.{_≡_};
-ghost use mathlib.Core.List.{[]};
 ghost use Prim.Native.Nat.{_≤_};
 ghost use lib.ListN.{length};
-ghost use Rattle.expansion.specs.Expansion.{lent};
+ghost use Rattle.expansion.specs.Tries.{under, lent};
 ghost use Rattle.line_text.specs.Lines.{callOf, lines};
 ghost use Rattle.call_lines.specs.Step.{lineStep, lineAfter};
-ghost use Rattle.call_lines.specs.Run.{OPS-ROOM, ACCESSES-ROOM, run, linesFrom, endingOf, liveRows};
+ghost use Rattle.call_lines.specs.Run.{ROWS, OPS-ROOM, ACCESSES-ROOM, linesFrom, endingOf, liveRows};
 use crate::Ran;
 use crate::Step;
+use call::OP_WIDTH;
 use expansion::ExpansionAnswer;
 use expansion::collect_copy_ops;
 use expansion::numbers;
@@ -28,9 +28,9 @@ fn run_line(
     accesses: &mut [u64],
 ) -> Step
     ensures step { λ r. ⌜ r
-        ≡ lineStep gap (callOf (now (text .entry))) (lent (now (bytes .entry)) (now (stamps .entry)) (now (ops .entry)) (now (accesses .entry))) ⌝ }
+        ≡ lineStep (under gap) (callOf (now (text .entry))) (lent (now (bytes .entry)) (now (stamps .entry)) (now (ops .entry)) (now (accesses .entry))) ⌝ }
     ensures slices { λ _. ⌜ lent (now (bytes .exit)) (now (stamps .exit)) (now (ops .exit)) (now (accesses .exit))
-        ≡ lineAfter gap (callOf (now (text .entry))) (lent (now (bytes .entry)) (now (stamps .entry)) (now (ops .entry)) (now (accesses .entry))) ⌝ }
+        ≡ lineAfter (under gap) (callOf (now (text .entry))) (lent (now (bytes .entry)) (now (stamps .entry)) (now (ops .entry)) (now (accesses .entry))) ⌝ }
 {
     let line = parse_call(text);
     let Line::Call {
@@ -79,9 +79,9 @@ pub fn run_lines(
     accesses: &mut [u64],
 ) -> Ran
     requires { ⌜ (length (now ops) ≡ OPS-ROOM) × (length (now accesses) ≡ ACCESSES-ROOM) ⌝ }
-    ensures rows { λ r. ⌜ liveRows r ≤ 32 ⌝ }
+    ensures rows { λ r. ⌜ liveRows r ≤ ROWS ⌝ }
     ensures ending { λ r. ⌜ endingOf r (now (ops .exit))
-        ≡ linesFrom gap 2 (lines (now (text .entry))) (run (now (bytes .entry)) (now (stamps .entry)) []) ⌝ }
+        ≡ linesFrom (under gap) 2 (lines (now (text .entry))) (lent (now (bytes .entry)) (now (stamps .entry)) (now (ops .entry)) (now (accesses .entry))) ⌝ }
 {
     let mut at = 0;
     let mut line = 2;
@@ -92,7 +92,7 @@ pub fn run_lines(
             head(&text[at..], NEWLINE),
             bytes,
             stamps,
-            &mut ops[16 * rows..],
+            &mut ops[OP_WIDTH * rows..],
             accesses,
         );
         match step {

@@ -8,17 +8,20 @@ use borrow.Author.Tests.{leb-false}
 use lib.Dec.{leb, lit≤}
 use lib.ListN.{length, take}
 use Rattle.lists.specs.Lists.{All}
+use Rattle.records.specs.Records.{LIMIT}
 use Rattle.records.specs.declared.TableAnswer.the-variants.{Made}
 use Rattle.call.specs.Ops.{opRecord}
 use Rattle.call.specs.Flat.{callNumbers}
 use Rattle.call.specs.Cuts.{CutCall, opsOf, Fits, callsOf}
+use Rattle.expansion.specs.Tries.{Try, Typed, under}
 use Rattle.copy_row.specs.Columns.{COLUMNS}
 use Rattle.copy_row.specs.Trace.{copyAnswer, copyAfter}
 use Rattle.chain.specs.Chain.{chainAnswer}
 use Rattle.chain.specs.declared.ChainAnswer.{ChainAnswer}
 use Rattle.chain.specs.declared.ChainAnswer.the-variants.{Passed, GapTooLarge}
 use Rattle.read_back.proofs.Passed.{Accepted}
-use Rattle.demand.specs.Demand.{Passes, ReadsBack, Try, Typed, accepted, acceptedOps, acceptedCalls, Demand3}
+use Rattle.calls_in_turn.specs.Accepted.{acceptedOps, acceptedCalls, acceptedOf}
+use Rattle.demand.specs.Demand.{Passes, ReadsBack, Demand3}
 use Rattle.demand.proofs.Whole.{passes-calls, calls-pass, calls-passes}
 use Rattle.demand.proofs.ReadBack.{reads-back, only-nine}
 use Rattle.demand.proofs.Alone.{alone}
@@ -52,18 +55,19 @@ made-passes gap g limit small ks fits table rows made =
     (calls-passes gap g l ks w, reads-back gap g l ks w)
 
 made : (gap : ℕ) → gap < 2 ^ 32 → (tries : List Try) → All Typed tries → (table : List ℕ) (rows : ℕ)
-    → copyAnswer 65536 (acceptedOps gap tries) (length table) ≡ Made rows
-    → let l = take (COLUMNS * rows) (copyAfter (acceptedOps gap tries) (Made rows) table) in
-    Passes gap l × ((ops calls : List ℕ) → ReadsBack gap l (acceptedOps gap tries) (acceptedCalls gap tries) ops calls)
+    → let records = acceptedOps (under gap) tries in
+    copyAnswer LIMIT records (length table) ≡ Made rows
+    → let l = take (COLUMNS * rows) (copyAfter records (Made rows) table) in
+    Passes gap l × ((ops calls : List ℕ) → ReadsBack gap l records (acceptedCalls (under gap) tries) ops calls)
 made gap g tries typed table rows =
     subst₂
     (λ (records handed : List ℕ).
-    copyAnswer 65536 records (length table) ≡ Made rows
+    copyAnswer LIMIT records (length table) ≡ Made rows
     → let l = take (COLUMNS * rows) (copyAfter records (Made rows) table) in
     Passes gap l × ((ops calls : List ℕ) → ReadsBack gap l records handed ops calls))
     (sym (tries-wrote gap tries typed))
     (sym (tries-handed gap tries))
-    (made-passes gap g 65536 (lit≤ tt) (map cutTry (accepted gap tries)) (tries-fit gap tries typed) table rows)
+    (made-passes gap g LIMIT (lit≤ tt) (map cutTry (acceptedOf (under gap) tries)) (tries-fit gap tries typed) table rows)
 
 pub demand3 : Demand3
 demand3 =

@@ -2,7 +2,7 @@
 use mathlib.Core.Path.{refl}
 use mathlib.Core.List.{[], _∷_, flatMap}
 use mathlib.Core.Logic.{inl, inr}
-use Prim.Native.Nat.{ℕ, zero, suc, _<_}
+use Prim.Native.Nat.{ℕ, zero, suc, _≤_, _<_}
 use native.Mathlib.Omega.{arith}
 use lib.ListN.{replicate}
 use Rattle.lists.specs.Lists.{store, flat, picked, counted, first, All}
@@ -12,14 +12,15 @@ use Rattle.records.specs.Records.{firstAbove, within, firstBad}
 use Rattle.records.specs.RowCount.{doubled, rowCount}
 use Rattle.records.specs.Table.{tableAnswer, rowAt, tableAfter}
 use Rattle.call.specs.Ops.{opLimits}
-use Rattle.call.specs.Cuts.{PieceOk, Fits}
+use Rattle.call.specs.Cuts.{PieceOk, Fits, Words}
 use Rattle.call.specs.Instances.{wide, narrow}
 use Rattle.window.specs.Window.{cellsAt, writeBytes}
 use Rattle.expansion_rows.specs.Rows as call
 use Rattle.expansion_rows.specs.Rows.{copyRowWidth, rowsWithin}
 use Rattle.expansion_rows.specs.Turns.{turnBytes, rowOps}
-use Rattle.expansion_cut.specs.Pieces.{Bytes}
-use Rattle.expansion.specs.Refusals.{refusals, expansionAnswer}
+use Rattle.expansion_rows.specs.Inside.{Bytes}
+use Rattle.expansion.specs.Tries.{Typed}
+use Rattle.expansion.specs.Refusals.{refusals, answerBy}
 use Rattle.expansion.specs.Expansion.{callOps, expanded, lentAfter}
 use Rattle.copy_row.specs.Rows.{rowOf, paddingRow}
 use Rattle.copy_row.specs.Trace.{copyAnswer, copyAfter}
@@ -30,7 +31,7 @@ use Rattle.copy_meaning.proofs.Check.{fine-passing}
 use Rattle.chain.specs.Link.{same, linked, before}
 use Rattle.chain.specs.Chain.{rowsFrom, chainFrom, chainAnswer}
 use Rattle.read_back.specs.ReadBack.{opsCount, callsCount, readOps, readCalls, roomAnswer, readBackAnswer}
-use Rattle.demand.specs.Demand.{DeadRow, WholeCalls, AnyCall, Typed}
+use Rattle.demand.specs.Demand.{DeadRow, WholeCalls, AnyCall}
 use Rattle.demand.specs.Instances.{threeKinds, deadRow, rows, unsound, tries, Instances}
 use Rattle.demand.proofs.Whole.{whole-calls}
 
@@ -89,13 +90,18 @@ bytes-same zero b h i = omega arith
 bytes-same (suc n) b h zero = h
 bytes-same (suc n) b h (suc i) = bytes-same n b h i
 
+-- the numbers of a small call fit their types
+small-words : (kind stamp src dst count : ℕ) → kind ≤ 2 → stamp < 100 → src < 100 → dst < 100 → count < 100
+    → Words (record { kind = kind; stamp = stamp; src = src; dst = dst; count = count })
+small-words kind stamp src dst count k t s d n = record { kind = k; stamp = omega arith; src = omega arith; dst = omega arith; count = omega arith }
+
 tries-typed : All Typed tries
 tries-typed = (
-  record { stamp = omega arith; src = omega arith; dst = omega arith; count = omega arith; bytes = bytes-same 32 3 (omega arith) },
+  record { words = small-words 0 4 0 16 9 (omega arith) (omega arith) (omega arith) (omega arith) (omega arith); bytes = bytes-same 32 3 (omega arith) },
   (
-    record { stamp = omega arith; src = omega arith; dst = omega arith; count = omega arith; bytes = bytes-same 32 4 (omega arith) },
+    record { words = small-words 1 5 0 9 1 (omega arith) (omega arith) (omega arith) (omega arith) (omega arith); bytes = bytes-same 32 4 (omega arith) },
     (
-      record { stamp = omega arith; src = omega arith; dst = omega arith; count = omega arith; bytes = bytes-same 32 5 (omega arith) },
+      record { words = small-words 2 6 5 40 0 (omega arith) (omega arith) (omega arith) (omega arith) (omega arith); bytes = bytes-same 32 5 (omega arith) },
       tt,
     ),
   ),
@@ -107,7 +113,7 @@ unfolding flatMap addP subP mulP bitP carryP carryLow carryHigh store flat picke
     incrHigh decrLow decrHigh resLow resHigh gapLow gapHigh borrow impliesMu oneHot firstWrite gatedBit dstResNonWrite singleLane
     borrowImplies borrowImpliesZero endImplies muComIs muComWideIs noWrap gapNoWrap residue firstResidue rowFault same linked before
     rowsFrom chainFrom chainAnswer opsCount callsCount readOps readCalls roomAnswer readBackAnswer cellsAt writeBytes copyRowWidth rowsWithin
-    call.rowsFrom turnBytes rowOps refusals expansionAnswer callOps expanded lentAfter
+    call.rowsFrom turnBytes rowOps refusals answerBy callOps expanded lentAfter
 instances =
     record {
       passes = refl;

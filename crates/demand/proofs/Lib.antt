@@ -6,7 +6,6 @@ pub mod ReadBack
 pub mod Alone
 pub mod GoodRecords
 pub mod Made
-pub mod AcceptedCalls
 pub mod Accepted
 pub mod Demand
 pub mod Instances

@@ -8,17 +8,14 @@ use mathlib.Core.List.{List, [], _∷_, _++_, flatMap}
 use Prim.Native.Nat.{ℕ, _*_, _/_, _%_, _^_, _≤_, _<_}
 use lib.Dec.{eqb}
 use lib.ListN.{length, take}
-use Rattle.answer.specs.declared.Answer.{Answer}
 use Rattle.lists.specs.Lists.{store, at, All}
+use Rattle.records.specs.Records.{LIMIT}
 use Rattle.records.specs.declared.TableAnswer.the-variants.{Made}
-use Rattle.call.specs.Calls.{Call, Piece, callWith}
+use Rattle.call.specs.Calls.{Piece}
 use Rattle.call.specs.Ops.{opRecord, OP-WIDTH}
 use Rattle.call.specs.Flat.{CALL-WIDTH, callNumbers}
 use Rattle.call.specs.Cuts.{Words, CutCall, opsOf, Fits, HasRow, callsOf}
-use Rattle.call.specs.declared.Functionality.{Functionality}
-use Rattle.expansion_cut.specs.Pieces.{Bytes}
-use Rattle.expansion.specs.Refusals.{expansionNumbers}
-use Rattle.expansion.specs.Expansion.{Lent, answerFor, lentAfter}
+use Rattle.expansion.specs.Tries.{under, Try, Typed}
 use Rattle.copy_row.specs.Columns.{MU, COLUMNS}
 use Rattle.copy_row.specs.Trace.{copyAnswer, copyAfter}
 use Rattle.copy_residues.specs.Residues.{residue, RESIDUES}
@@ -27,6 +24,7 @@ use Rattle.chain.specs.Chain.{rowsOf, chainAnswer, chainNumbers}
 use Rattle.chain.specs.declared.ChainAnswer.the-variants.{Passed}
 use Rattle.read_back.specs.ReadBack.{readBackAnswer, opsAfter, callsAfter, readBackNumbers}
 use Rattle.read_back.specs.declared.ReadBackAnswer.the-variants.{Read, BufferShort}
+use Rattle.calls_in_turn.specs.Accepted.{acceptedOps, acceptedCalls}
 
 -- "A list passes under a gap when the chain check, given both, refuses nothing"
 abbrev pub Passes : ℕ → List ℕ → Type 0
@@ -86,48 +84,6 @@ pub record AnyCall (k : CutCall) : Type 0 where
   pub pieces : All AnyPiece (k .pieces)
   pub row : HasRow k
 
--- a call handed to the expansion: its kind and numbers, and the four slices lent to it, whatever they hold: the window's bytes and
--- stamps, and two buffers
-pub record Try : Type 0 where
-  pub kind : Functionality
-  pub stamp : ℕ
-  pub src : ℕ
-  pub dst : ℕ
-  pub count : ℕ
-  pub slices : Lent
-
--- what the types of these say: numbers of 64 bits, and bytes
-pub record Typed (t : Try) : Type 0 where
-  pub stamp : t .stamp < 2 ^ 64
-  pub src : t .src < 2 ^ 64
-  pub dst : t .dst < 2 ^ 64
-  pub count : t .count < 2 ^ 64
-  pub bytes : Bytes (t .slices .bytes)
-
-abbrev pub callIn : Try → Call
-callIn t = callWith (t .kind) (t .stamp) (t .src) (t .dst) (t .count)
-
--- document 01's number and value of what the expansion answers
-abbrev pub answered : ℕ → Try → Answer
-answered gap t = expansionNumbers (answerFor 65536 gap (callIn t) (t .slices)) .answer
-
--- "Accepted means that the expansion refuses nothing": the accepted ones, in the list's order
-abbrev pub accepted : ℕ → List Try → List Try
-accepted gap [] = []
-accepted gap (t ∷ tries) = cond (eqb (answered gap t .number) 0) (t ∷ accepted gap tries) (accepted gap tries)
-
--- the operation records that the expansion wrote: as many as it answers, from the front of its buffer
-abbrev pub opsWritten : ℕ → Try → List ℕ
-opsWritten gap t = take (OP-WIDTH * answered gap t .value) (lentAfter 65536 gap (callIn t) (t .slices) .ops)
-
--- "The accepted calls' operation records, joined in the list's order", and "each accepted call's kind, stamp, src, dst and count as
--- handed in"
-abbrev pub acceptedOps : ℕ → List Try → List ℕ
-acceptedOps gap tries = flatMap (opsWritten gap) (accepted gap tries)
-
-abbrev pub acceptedCalls : ℕ → List Try → List ℕ
-acceptedCalls gap tries = flatMap (λ t. callNumbers (callIn t)) (accepted gap tries)
-
 pub record Demand3 : Type 0 where
   -- "For every list of 41-number rows and every gap below 2^32, the list passes exactly when two things hold." Here of any list of
   -- numbers: one that is not rows of 41 does not pass
@@ -148,6 +104,7 @@ pub record Demand3 : Type 0 where
   -- before each: the table made from the accepted ones passes under that gap, and reading it back gives exactly these, in their order,
   -- with the widths and value bytes of their expansion." Document 01: "Where it refuses nothing, the rows written pass under that gap."
   pub made : (gap : ℕ) → gap < 2 ^ 32 → (tries : List Try) → All Typed tries → (table : List ℕ) (rows : ℕ)
-      → copyAnswer 65536 (acceptedOps gap tries) (length table) ≡ Made rows
-      → let l = take (COLUMNS * rows) (copyAfter (acceptedOps gap tries) (Made rows) table) in
-      Passes gap l × ((ops calls : List ℕ) → ReadsBack gap l (acceptedOps gap tries) (acceptedCalls gap tries) ops calls)
+      → let records = acceptedOps (under gap) tries in
+      copyAnswer LIMIT records (length table) ≡ Made rows
+      → let l = take (COLUMNS * rows) (copyAfter records (Made rows) table) in
+      Passes gap l × ((ops calls : List ℕ) → ReadsBack gap l records (acceptedCalls (under gap) tries) ops calls)

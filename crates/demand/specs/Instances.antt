@@ -6,13 +6,14 @@ use Prim.Native.Nat.{ℕ, _+_, _*_, _^_}
 use lib.ListN.{set, take, drop, replicate}
 use Rattle.lists.specs.Lists.{All}
 use Rattle.field.specs.Field.{p}
+use Rattle.records.specs.Records.{LIMIT}
 use Rattle.records.specs.declared.TableAnswer.the-variants.{Made}
 use Rattle.call.specs.Ops.{opRecord}
 use Rattle.call.specs.Flat.{callNumbers}
 use Rattle.call.specs.Cuts.{CutCall, opsOf, Fits, callsOf}
 use Rattle.call.specs.Instances.{wide, narrow}
-use Rattle.call.specs.declared.Functionality.the-variants.{Copy, Set, Write}
-use Rattle.expansion.specs.Expansion.{Lent, lent}
+use Rattle.expansion.specs.Tries.{under, Lent, lent, Try, tryOf, Typed}
+use Rattle.expansion.specs.Refusals.{answered}
 use Rattle.copy_row.specs.Columns.{SRC, SRC-INCR, DST-INCR, MU-COM-WIDE, COLUMNS}
 use Rattle.copy_row.specs.Rows.{tableRow, paddingRow}
 use Rattle.copy_row.specs.Trace.{copyAnswer, copyAfter}
@@ -20,7 +21,8 @@ use Rattle.chain.specs.Chain.{chainAnswer}
 use Rattle.chain.specs.declared.ChainAnswer.the-variants.{Passed, GapTooLarge, NotRows, BadElement, BadRange, BadResidue, LinkBroken, NotEnded}
 use Rattle.read_back.specs.ReadBack.{readOps, readCalls, readBackAnswer}
 use Rattle.read_back.specs.declared.ReadBackAnswer.the-variants.{Read, BufferShort}
-use Rattle.demand.specs.Demand.{WholeCalls, AnyCall, Try, Typed, answered, accepted, acceptedOps}
+use Rattle.calls_in_turn.specs.Accepted.{acceptedOf, acceptedOps}
+use Rattle.demand.specs.Demand.{WholeCalls, AnyCall}
 
 -- a Copy of nine bytes in two rows, an empty Set whose one row has width 8 and values, and a Write of one byte; the gap is 8
 abbrev pub threeKinds : List CutCall
@@ -57,13 +59,13 @@ abbrev pub window : ℕ → ℕ → ℕ → Lent
 window byte opsRoom accessesRoom = lent (replicate 32 byte) (replicate 32 0) (replicate opsRoom 7) (replicate accessesRoom 7)
 
 abbrev pub copyTry : Try
-copyTry = record { kind = Copy; stamp = 4; src = 0; dst = 16; count = 9; slices = window 3 33 116 }
+copyTry = tryOf (record { kind = 0; stamp = 4; src = 0; dst = 16; count = 9 }) (window 3 33 116)
 
 abbrev pub setTry : Try
-setTry = record { kind = Set; stamp = 5; src = 0; dst = 9; count = 1; slices = window 4 16 58 }
+setTry = tryOf (record { kind = 1; stamp = 5; src = 0; dst = 9; count = 1 }) (window 4 16 58)
 
 abbrev pub writeTry : Try
-writeTry = record { kind = Write; stamp = 6; src = 5; dst = 40; count = 0; slices = window 5 16 0 }
+writeTry = tryOf (record { kind = 2; stamp = 6; src = 5; dst = 40; count = 0 }) (window 5 16 0)
 
 abbrev pub tries : List Try
 tries = copyTry ∷ setTry ∷ writeTry ∷ []
@@ -80,7 +82,7 @@ pub record Instances : Type 0 where
   pub read : readBackAnswer 8 rows 64 15 ≡ Read 4 3
   pub short : readBackAnswer 8 rows 64 14 ≡ BufferShort
   -- the table made of the calls' records, in a lent table of 170 numbers, and its rows
-  pub made : copyAnswer 65536 records 170 ≡ Made 4
+  pub made : copyAnswer LIMIT records 170 ≡ Made 4
   pub table : chainAnswer 8 (take (COLUMNS * 4) (copyAfter records (Made 4) (replicate 170 1))) ≡ Passed 4
   -- calls and widths of no sound call
   pub any : AnyCall unsound
@@ -96,8 +98,8 @@ pub record Instances : Type 0 where
   pub refused-18 : chainAnswer 8 (row 0) ≡ NotEnded 1
   -- expanded in turn: the Set is refused with 3, and the table of the other two has four rows that pass
   pub typed : All Typed tries
-  pub set-refused : answered 8 setTry .number ≡ 3
-  pub others-accepted : accepted 8 tries ≡ copyTry ∷ writeTry ∷ []
-  pub tries-made : copyAnswer 65536 (acceptedOps 8 tries) 164 ≡ Made 4
-  pub tries-pass : chainAnswer 8 (take (COLUMNS * 4) (copyAfter (acceptedOps 8 tries) (Made 4) (replicate 164 1))) ≡ Passed 4
-  pub tries-read : readBackAnswer 8 (take (COLUMNS * 4) (copyAfter (acceptedOps 8 tries) (Made 4) (replicate 164 1))) 48 10 ≡ Read 3 2
+  pub set-refused : answered (under 8) setTry .number ≡ 3
+  pub others-accepted : acceptedOf (under 8) tries ≡ copyTry ∷ writeTry ∷ []
+  pub tries-made : copyAnswer LIMIT (acceptedOps (under 8) tries) 164 ≡ Made 4
+  pub tries-pass : chainAnswer 8 (take (COLUMNS * 4) (copyAfter (acceptedOps (under 8) tries) (Made 4) (replicate 164 1))) ≡ Passed 4
+  pub tries-read : readBackAnswer 8 (take (COLUMNS * 4) (copyAfter (acceptedOps (under 8) tries) (Made 4) (replicate 164 1))) 48 10 ≡ Read 3 2

@@ -14,18 +14,25 @@ use Rattle.expansion_rows.specs.Rows.{rowsOf}
 use Rattle.expansion_rows.specs.Turns.{rowOps, passBytes, passStamps}
 use Rattle.expansion_rows.specs.Held.{heldAllBytes}
 use Rattle.expansion.specs.Refusals.{opCount, accessCount}
-use Rattle.expansion.specs.Expansion.{callBytes, callStamps, Lent}
+use Rattle.expansion.specs.Tries.{Setting, Lent, lengths, Try}
+use Rattle.expansion.specs.Expansion.{callBytes, callStamps}
 use Rattle.expansion.specs.Consequences.{Accepts, Outside, movedBytes, placeIn, Consequences}
-use Rattle.expansion.proofs.Judged.{Fair, accepted-is}
+use Rattle.expansion.proofs.Judged.{Fair, accepted-fair}
 use Rattle.expansion.proofs.Moved.{some-ops}
 use Rattle.expansion.proofs.Cut.{cut, fits, counts}
 use Rattle.expansion.proofs.Kept.{pass-kept, deferred-kept, pass-stamps-kept, deferred-stamps-kept}
 use Rattle.expansion.proofs.Copied.{pass-same, held-copy}
 use Rattle.expansion.proofs.SetMoves.{moves-all, fills}
 
-module _ (gap : ℕ) (c : Call) (l : Lent) (taken : Accepts gap c l) where
-  fair-call : Fair 65536 gap c (length (l .bytes)) (length (l .stamps))
-  fair-call = accepted-is 65536 gap c _ _ (length (l .ops)) (length (l .accesses)) (opCount c) (accessCount c) taken .fair
+module _ (s : Setting) (t : Try) (taken : Accepts s t) where
+  abbrev c : Call
+  c = t .call
+
+  abbrev l : Lent
+  l = t .slices
+
+  fair-call : Fair s c (lengths l)
+  fair-call = accepted-fair s c (lengths l) taken .0
 
   bytes-kept : (i : ℕ) → i < length (l .bytes) → Outside (c .dst) (c .count) i → getD (callBytes c (l .bytes)) i 0 ≡ getD (l .bytes) i 0
   unfolding callBytes
@@ -51,7 +58,7 @@ module _ (gap : ℕ) (c : Call) (l : Lent) (taken : Accepts gap c l) where
   written write = rw (ne-eqb (c .kind) 0 (λ q. omega arith)) (pass-same c 1 (l .bytes) (λ q. omega arith) (fair-call .source))
 
   module _ (set : c .kind ≡ 1) where
-    apart : c .dst ≡ c .src + gap
+    apart : c .dst ≡ c .src + s .gap
     apart = fair-call .apart set
 
     dest-in : 0 < c .count → c .dst + c .count ≤ length (l .bytes)
@@ -59,20 +66,20 @@ module _ (gap : ℕ) (c : Call) (l : Lent) (taken : Accepts gap c l) where
 
     set-moves : (x : ℕ) → x < c .count
         → let moved = movedBytes c (l .bytes) in
-        getD moved x 0 ≡ cond (leb gap x && ltb (placeIn (rowsOf c) x) gap) (getD moved (x - gap) 0) (getD (l .bytes) (c .src + x) 0)
+        getD moved x 0 ≡ cond (leb (s .gap) x && ltb (placeIn (rowsOf c) x) (s .gap)) (getD moved (x - s .gap) 0) (getD (l .bytes) (c .src + x) 0)
     set-moves x h =
         let e = some-ops c (l .bytes) (omega arith) in
         subst
         (λ (os : List Op).
         let moved = flatMap (λ (o : Op). take (o .piece .width) (o .piece .value)) os in
-        getD moved x 0 ≡ cond (leb gap x && ltb (placeIn (rowsOf c) x) gap) (getD moved (x - gap) 0) (getD (l .bytes) (c .src + x) 0))
+        getD moved x 0 ≡ cond (leb (s .gap) x && ltb (placeIn (rowsOf c) x) (s .gap)) (getD moved (x - s .gap) 0) (getD (l .bytes) (c .src + x) 0))
         (sym e)
-        (moves-all c (l .bytes) gap set apart dest-in x h)
+        (moves-all c (l .bytes) (s .gap) set apart dest-in x h)
 
-    set-fills : 8 ≤ gap → (x : ℕ) → x < c .count
+    set-fills : 8 ≤ s .gap → (x : ℕ) → x < c .count
         → getD (callBytes c (l .bytes)) (c .dst + x) 0 ≡ getD (callBytes c (l .bytes)) (c .src + x) 0
     unfolding callBytes heldAllBytes
-    set-fills wide x h = rw (ne-eqb (c .kind) 0 (λ q. omega arith)) (fills c 1 (l .bytes) gap set apart wide dest-in x h)
+    set-fills wide x h = rw (ne-eqb (c .kind) 0 (λ q. omega arith)) (fills c 1 (l .bytes) (s .gap) set apart wide dest-in x h)
 
 pub consequences : Consequences
 consequences =

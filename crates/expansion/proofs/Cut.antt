@@ -3,28 +3,31 @@
 use mathlib.Core.Path.{_≡_, refl, sym, ap, _∙_, subst}
 use mathlib.Core.Logic.{inr}
 use mathlib.Core.Bool.{Bool, true, false, cond}
-use mathlib.Core.List.{List, [], _∷_, map}
-use Prim.Native.Nat.{ℕ, zero, suc, _+_, _*_, _<_}
+use mathlib.Core.List.{List, [], _∷_, map, flatMap}
+use Prim.Native.Nat.{ℕ, zero, suc, _+_, _*_, _^_, _<_}
 use native.Mathlib.Omega.{arith}
 use borrow.Author.Tests.{eq-eqb, ne-eqb, eqb-true, eqb-false}
 use lib.Dec.{eqb}
 use lib.ListN.{length, replicate, length-append}
 use Rattle.lists.specs.Lists.{All}
 use Rattle.call.specs.Calls.{Call, Piece, Op}
+use Rattle.call.specs.Ops.{opRecord, OP-WIDTH}
 use Rattle.call.specs.Cuts.{Words, PieceOk, cutFrom, Cut, Sound, Fits}
 use Rattle.call.proofs.Cuts.{cut-single}
 use Rattle.window.specs.Window.{Window, windowOf}
 use Rattle.expansion_rows.specs.Rows.{copyRowWidth, Row, rowsOf}
 use Rattle.expansion_rows.specs.Turns.{inverted, valueAt, turnBytes, rowOps, passAccesses}
 use Rattle.expansion_rows.proofs.RowList.{rows-none, rows-next}
+use Rattle.expansion_rows.proofs.HeldOps.{Eight, row-ops-eight, flat-ops-length}
 use Rattle.expansion_rows.proofs.Lengths.{row-ops-length, held-accesses-length, pass-accesses-length}
 use Rattle.expansion_cut.specs.Pieces.{Bytes, piecesOf}
 use Rattle.expansion_cut.proofs.Bytes.{zeros-ok}
 use Rattle.expansion_cut.proofs.RowsCut.{rows-are-cut}
 use Rattle.expansion.specs.Refusals.{opCount, accessCount}
-use Rattle.expansion.specs.Expansion.{emptyOp, orEmpty, callOps, deferred, callAccesses, Lent}
+use Rattle.expansion.specs.Tries.{Setting, Lengths, lengths, Try}
+use Rattle.expansion.specs.Expansion.{emptyOp, orEmpty, callOps, deferred, callAccesses}
 use Rattle.expansion.specs.Consequences.{callPieces, cutCall, Accepts}
-use Rattle.expansion.proofs.Judged.{accepted-is, source-fits, dest-fits}
+use Rattle.expansion.proofs.Judged.{Fair, accepted-fair, source-fits, dest-fits}
 use Rattle.expansion.proofs.Moved.{some-ops}
 
 -- The two kinds of calls
@@ -76,24 +79,20 @@ sums c bytes b = step (c .count) refl
 
 -- Soundness
 
-sound : (gap : ℕ) (c : Call) (l : Lent) → Words c → Accepts gap c l → Sound gap c
-sound gap c l words taken =
-    let n = length (l .bytes) in
-    let f = accepted-is 65536 gap c n (length (l .stamps)) (length (l .ops)) (length (l .accesses)) (opCount c) (accessCount c) taken .fair in
+pub fair-sound : (s : Setting) (c : Call) (n : Lengths) → s .limit < 2 ^ 64 → Words c → Fair s c n → Sound (s .gap) c
+fair-sound s c n small words f =
     record {
       words = words;
-      reach =
-          inr (
-            source-fits 65536 gap c n (length (l .stamps)) f (omega arith) (words .src),
-            dest-fits 65536 gap c n (length (l .stamps)) f (omega arith) (words .dst),
-          );
+      reach = inr (source-fits s c n f small (words .src), dest-fits s c n f small (words .dst));
       gapped = f .apart;
     }
 
-pub fits : (gap : ℕ) (c : Call) (l : Lent) → Words c → Bytes (l .bytes) → Accepts gap c l → Fits gap (cutCall c (l .bytes))
-fits gap c l words b taken =
-    let s = sums c (l .bytes) b in
-    record { sound = sound gap c l words taken; cut = s .0; pieces = s .1 }
+pub fits : (s : Setting) → s .limit < 2 ^ 64 → (t : Try) → Words (t .call) → Bytes (t .slices .bytes) → Accepts s t
+    → Fits (s .gap) (cutCall (t .call) (t .slices .bytes))
+fits s small t words b e =
+    let parts = sums (t .call) (t .slices .bytes) b in
+    let fair = accepted-fair s (t .call) (lengths (t .slices)) e .0 in
+    record { sound = fair-sound s (t .call) (lengths (t .slices)) small words fair; cut = parts .0; pieces = parts .1 }
 
 -- Counts
 
@@ -144,3 +143,16 @@ accesses-count c m kind =
 pub counts : (c : Call) (bytes stamps : List ℕ) → c .kind < 3
     → (length (callOps c bytes) ≡ opCount c) × (length (callAccesses c (windowOf bytes stamps)) ≡ accessCount c)
 counts c bytes stamps kind = (ops-count c bytes, accesses-count c (windowOf bytes stamps) kind)
+
+-- Numbers of the records
+
+-- each has eight value numbers
+pub ops-eight : (c : Call) (bytes : List ℕ) → All Eight (callOps c bytes)
+ops-eight c bytes = go (c .count) refl
+  where
+    go : (n : ℕ) → c .count ≡ n → All Eight (callOps c bytes)
+    go zero e = subst (λ (os : List Op). All Eight os) (sym (empty-ops c bytes e)) (refl, tt)
+    go (suc n) e = subst (λ (os : List Op). All Eight os) (sym (some-ops c bytes (omega arith))) (row-ops-eight (rowsOf c) bytes)
+
+pub records-length : (c : Call) (bytes : List ℕ) → length (flatMap opRecord (callOps c bytes)) ≡ OP-WIDTH * opCount c
+records-length c bytes = flat-ops-length (callOps c bytes) (ops-eight c bytes) ∙ ap (λ (n : ℕ). OP-WIDTH * n) (ops-count c bytes)

@@ -1,18 +1,19 @@
--- What it takes to be accepted: the tests of the refusals as facts on numbers, and what an answer Expanded says of the call. Assumes
--- nothing.
+-- What it takes to be accepted, both ways: an answer of number 0 says that the call is fair and has room, and a fair call with room is
+-- accepted. Assumes nothing.
 use mathlib.Core.Path.{_≡_, refl, ap}
-use mathlib.Core.Bool.{Bool, true, false, cond, not, _&&_, _||_}
+use mathlib.Core.Bool.{Bool, true, false, not, _&&_, _||_}
 use Prim.Native.Nat.{ℕ, zero, suc, _+_, _-_, _*_, _^_, _≤_, _<_}
 use native.Mathlib.Omega.{arith}
-use borrow.Author.Tests.{lt-ltb, ltb-true, ltb-false, leb-false, eq-eqb, ne-eqb, eqb-true, eqb-false, not-false}
+use borrow.Author.Tests.{lt-ltb, le-ltb, ltb-true, ltb-false, leb-false, lt-leb, eq-eqb, ne-eqb, eqb-true, eqb-false, not-true, not-false}
 use lib.Dec.{eqb, ltb}
-use Rattle.lists.proofs.Tests.{same-test}
+use Rattle.answer.specs.Numbers.{accepted, refused}
+use Rattle.answer.proofs.Refusals.{none-of, given-of}
+use Rattle.lists.proofs.Tests.{same-test, neither}
 use Rattle.call.specs.Calls.{Call}
 use Rattle.call.specs.Ops.{OP-WIDTH}
 use Rattle.access.specs.Access.{ACCESS-WIDTH}
-use Rattle.expansion.specs.Refusals.{opCount, accessCount, refusals, expansionAnswer, expansionNumbers, gapTooLarge, badWindow, lastStamp, notGapApart, pastIndex, outsideWindow, bufferShort}
-use Rattle.expansion.specs.declared.ExpansionAnswer.{ExpansionAnswer}
-use Rattle.expansion.specs.declared.ExpansionAnswer.the-variants.{Expanded, GapTooLarge, BadWindow, LastStamp, NotGapApart, PastIndex, OutsideWindow, BufferShort}
+use Rattle.expansion.specs.Tries.{Setting, Lengths}
+use Rattle.expansion.specs.Refusals.{opCount, accessCount, gapTooLarge, badWindow, lastStamp, notGapApart, pastIndex, outsideWindow, bufferShort, refusals, answerBy}
 
 -- Tests
 
@@ -30,154 +31,119 @@ apart-by-difference dst src gap h =
     (λ e. let l : dst - gap ≡ src = eqb-true (dst - gap) src e in eq-eqb dst (src + gap) (omega arith))
     (λ e. let l : dst ≡ src + gap = eqb-true dst (src + gap) e in eq-eqb (dst - gap) src (omega arith))
 
-or-fails : (a b : Bool) → (a || b) ≡ false → (a ≡ false) × (b ≡ false)
-or-fails true b e = let z : _≡_ {A = ℕ} 0 1 = cc in absurd (omega arith)
-or-fails false b e = (refl, e)
-
 and-fails : (a b : Bool) → (a && b) ≡ false → a ≡ true → b ≡ false
 and-fails true b e q = e
 and-fails false b e q = let z : _≡_ {A = ℕ} 0 1 = cc in absurd (omega arith)
 
--- What the tests but that of the buffers say where none holds
+fails-and : (a b : Bool) → (a ≡ true → b ≡ false) → (a && b) ≡ false
+fails-and true b h = h refl
+fails-and false b h = refl
 
-pub record Fair (limit gap : ℕ) (c : Call) (cells stamped : ℕ) : Type 0 where
-  pub narrow : gap < 2 ^ 32
-  pub window : cells ≡ stamped
-  pub size : cells ≤ limit
+-- What a call is that only the buffers may refuse
+
+pub record Fair (s : Setting) (c : Call) (n : Lengths) : Type 0 where
+  pub narrow : s .gap < 2 ^ 32
+  pub window : n .cells ≡ n .stamped
+  pub size : n .cells ≤ s .limit
   pub stamp : c .stamp ≡ 2 ^ 64 - 1 → ⊥
-  pub apart : c .kind ≡ 1 → c .dst ≡ c .src + gap
+  pub apart : c .kind ≡ 1 → c .dst ≡ c .src + s .gap
   pub index : c .kind ≡ 2 → c .dst + c .count ≤ 2 ^ 32 - 1
-  pub source : 0 < c .count → c .src + c .count ≤ cells
-  pub dest : 0 < c .count → (c .kind ≡ 2 → ⊥) → c .dst + c .count ≤ cells
+  pub source : 0 < c .count → c .src + c .count ≤ n .cells
+  pub dest : 0 < c .count → (c .kind ≡ 2 → ⊥) → c .dst + c .count ≤ n .cells
 
-pub fair : (limit gap : ℕ) (c : Call) (cells stamped : ℕ)
-    → gapTooLarge gap ≡ false
-    → badWindow limit cells stamped ≡ false
-    → lastStamp c ≡ false
-    → notGapApart gap c ≡ false
-    → pastIndex c ≡ false
-    → outsideWindow c cells ≡ false
-    → Fair limit gap c cells stamped
-fair limit gap c cells stamped t₇ t₈ t₁ t₃ t₅ t₂ =
-    let window = or-fails (not (eqb cells stamped)) (ltb limit cells) t₈ in
-    let some : 0 < c .count → not (eqb (c .count) 0) ≡ true = λ h. rw (ne-eqb (c .count) 0 (λ q. omega arith)) in
-    let cells-in : 0 < c .count
-    → (ltb cells (c .src + c .count) ≡ false) × ((not (eqb (c .kind) 2) && ltb cells (c .dst + c .count)) ≡ false) =
-    λ h. or-fails (ltb cells (c .src + c .count)) _ (and-fails _ _ t₂ (some h)) in
-    let not-write : (c .kind ≡ 2 → ⊥) → not (eqb (c .kind) 2) ≡ true = λ other. rw (ne-eqb (c .kind) 2 other) in
-    record {
-      narrow = leb-false (2 ^ 32) gap t₇;
-      window = eqb-true cells stamped (not-false (eqb cells stamped) (window .0));
-      size = ltb-false limit cells (window .1);
-      stamp = eqb-false (c .stamp) (2 ^ 64 - 1) t₁;
-      apart = λ set. eqb-true (c .dst) (c .src + gap) (not-false _ (and-fails _ _ t₃ (eq-eqb (c .kind) 1 set)));
-      index = λ write. ltb-false (2 ^ 32 - 1) (c .dst + c .count) (and-fails _ _ t₅ (eq-eqb (c .kind) 2 write));
-      source = λ h. ltb-false cells (c .src + c .count) (cells-in h .0);
-      dest = λ h other. ltb-false cells (c .dst + c .count) (and-fails _ _ (cells-in h .1) (not-write other));
-    }
+-- and one that they do not refuse either
+pub record Room (c : Call) (n : Lengths) : Type 0 where
+  pub ops : OP-WIDTH * opCount c ≤ n .ops
+  pub accesses : ACCESS-WIDTH * accessCount c ≤ n .accesses
 
--- counts and sums that fit, with a count of 0 too
-module _ (limit gap : ℕ) (c : Call) (cells stamped : ℕ) (f : Fair limit gap c cells stamped) (small : limit < 2 ^ 64) where
-  pub count-fits : c .count ≤ limit
+-- what the tests but that of the buffers say of it
+abbrev pub Passes : Setting → Call → Lengths → Type 0
+Passes s c n =
+    (gapTooLarge (s .gap) ≡ false)
+    × (badWindow (s .limit) n ≡ false)
+    × (lastStamp c ≡ false)
+    × (notGapApart (s .gap) c ≡ false)
+    × (pastIndex c ≡ false)
+    × (outsideWindow c (n .cells) ≡ false)
+
+module _ (s : Setting) (c : Call) (n : Lengths) where
+  pub passes-fair : Passes s c n → Fair s c n
+  passes-fair p =
+      let window = neither (not (eqb (n .cells) (n .stamped))) (ltb (s .limit) (n .cells)) (p .1) in
+      let some : 0 < c .count → not (eqb (c .count) 0) ≡ true = λ h. rw (ne-eqb (c .count) 0 (λ q. omega arith)) in
+      let cells : 0 < c .count
+      → (ltb (n .cells) (c .src + c .count) ≡ false) × ((not (eqb (c .kind) 2) && ltb (n .cells) (c .dst + c .count)) ≡ false) =
+      λ h. neither (ltb (n .cells) (c .src + c .count)) _ (and-fails _ _ (p .5) (some h)) in
+      let not-write : (c .kind ≡ 2 → ⊥) → not (eqb (c .kind) 2) ≡ true = λ other. rw (ne-eqb (c .kind) 2 other) in
+      record {
+        narrow = leb-false (2 ^ 32) (s .gap) (p .0);
+        window = eqb-true (n .cells) (n .stamped) (not-false (eqb (n .cells) (n .stamped)) (window .0));
+        size = ltb-false (s .limit) (n .cells) (window .1);
+        stamp = eqb-false (c .stamp) (2 ^ 64 - 1) (p .2);
+        apart = λ set. eqb-true (c .dst) (c .src + s .gap) (not-false _ (and-fails _ _ (p .3) (eq-eqb (c .kind) 1 set)));
+        index = λ write. ltb-false (2 ^ 32 - 1) (c .dst + c .count) (and-fails _ _ (p .4) (eq-eqb (c .kind) 2 write));
+        source = λ h. ltb-false (n .cells) (c .src + c .count) (cells h .0);
+        dest = λ h other. ltb-false (n .cells) (c .dst + c .count) (and-fails _ _ (cells h .1) (not-write other));
+      }
+
+  pub fair-passes : Fair s c n → Passes s c n
+  fair-passes f = (
+    lt-leb (2 ^ 32) (s .gap) (f .narrow),
+    rw (eq-eqb (n .cells) (n .stamped) (f .window)) (le-ltb (s .limit) (n .cells) (f .size)),
+    ne-eqb (c .stamp) (2 ^ 64 - 1) (f .stamp),
+    fails-and _ _ (λ e. ap not (eq-eqb (c .dst) (c .src + s .gap) (f .apart (eqb-true (c .kind) 1 e)))),
+    fails-and _ _ (λ e. le-ltb _ _ (f .index (eqb-true (c .kind) 2 e))),
+    fails-and _ _
+        (λ e.
+        let some : 0 < c .count = omega (arith, eqb-false (c .count) 0 (not-true _ e)) in
+        rw (le-ltb (n .cells) (c .src + c .count) (f .source some))
+        (fails-and _ _ (λ o. le-ltb _ _ (f .dest some (eqb-false (c .kind) 2 (not-true _ o)))))),
+  )
+
+  -- the answer to a fair call, by its room
+  pub fair-short : Fair s c n → bufferShort (opCount c) (accessCount c) n ≡ true → answerBy s c n ≡ refused 9 0
+  unfolding answerBy refusals
+  fair-short f e = let p = fair-passes f in rw (p .0, p .1, p .2, p .3, p .4, p .5, e)
+
+  pub fair-accepted : Fair s c n → Room c n → answerBy s c n ≡ accepted (opCount c)
+  unfolding answerBy refusals
+  fair-accepted f r =
+      let p = fair-passes f in
+      let room : bufferShort (opCount c) (accessCount c) n ≡ false =
+      rw (le-ltb (n .ops) (OP-WIDTH * opCount c) (r .ops)) (le-ltb _ _ (r .accesses)) in
+      given-of (refusals s c n) (accepted (opCount c)) (p .0, (p .1, (p .2, (p .3, (p .4, (p .5, (room, tt)))))))
+
+  -- and what an answer of number 0 says
+  pub accepted-fair : answerBy s c n .number ≡ 0 → Fair s c n × Room c n
+  unfolding answerBy refusals
+  accepted-fair e =
+      let h = none-of (refusals s c n) (accepted (opCount c)) (refl, (refl, (refl, (refl, (refl, (refl, (refl, tt))))))) e in
+      let room = neither (ltb (n .ops) (OP-WIDTH * opCount c)) (ltb (n .accesses) (ACCESS-WIDTH * accessCount c)) (h .1 .1 .1 .1 .1 .1 .0) in (
+        passes-fair (h .0, h .1 .0, h .1 .1 .0, h .1 .1 .1 .0, h .1 .1 .1 .1 .0, h .1 .1 .1 .1 .1 .0),
+        record { ops = ltb-false (n .ops) _ (room .0); accesses = ltb-false (n .accesses) _ (room .1) },
+      )
+
+-- Counts and sums that fit, with a count of 0 too
+
+module _ (s : Setting) (c : Call) (n : Lengths) (f : Fair s c n) (small : s .limit < 2 ^ 64) where
+  pub count-fits : c .count ≤ s .limit
   count-fits = step (c .count) refl
     where
-      step : (n : ℕ) → c .count ≡ n → c .count ≤ limit
+      step : (k : ℕ) → c .count ≡ k → c .count ≤ s .limit
       step zero e = omega arith
-      step (suc n) e = omega (arith, f .source (omega arith), f .size)
+      step (suc k) e = omega (arith, f .source (omega arith), f .size)
 
   pub source-fits : c .src < 2 ^ 64 → c .src + c .count < 2 ^ 64
   source-fits h = step (c .count) refl
     where
-      step : (n : ℕ) → c .count ≡ n → c .src + c .count < 2 ^ 64
+      step : (k : ℕ) → c .count ≡ k → c .src + c .count < 2 ^ 64
       step zero e = omega arith
-      step (suc n) e = omega (arith, f .source (omega arith), f .size)
+      step (suc k) e = omega (arith, f .source (omega arith), f .size)
 
   pub dest-fits : c .dst < 2 ^ 64 → c .dst + c .count < 2 ^ 64
   dest-fits h = step (c .count) refl (eqb (c .kind) 2) refl
     where
-      step : (n : ℕ) → c .count ≡ n → (b : Bool) → eqb (c .kind) 2 ≡ b → c .dst + c .count < 2 ^ 64
+      step : (k : ℕ) → c .count ≡ k → (b : Bool) → eqb (c .kind) 2 ≡ b → c .dst + c .count < 2 ^ 64
       step zero e b q = omega arith
-      step (suc n) e true q = omega (arith, f .index (eqb-true (c .kind) 2 q))
-      step (suc n) e false q = omega (arith, f .dest (omega arith) (eqb-false (c .kind) 2 q), f .size)
-
--- The answer where none of them holds
-
-module _
-    (limit gap : ℕ) (c : Call) (cells stamped opsRoom accessesRoom : ℕ)
-    (t₇ : gapTooLarge gap ≡ false)
-    (t₈ : badWindow limit cells stamped ≡ false)
-    (t₁ : lastStamp c ≡ false)
-    (t₃ : notGapApart gap c ≡ false)
-    (t₅ : pastIndex c ≡ false)
-    (t₂ : outsideWindow c cells ≡ false)
-    (ops accesses : ℕ) (eo : ops ≡ opCount c) (ea : accesses ≡ accessCount c) where
-  room : (b : Bool) → bufferShort ops accesses opsRoom accessesRoom ≡ b
-      → bufferShort (opCount c) (accessCount c) opsRoom accessesRoom ≡ b
-  room b e = cc
-
-  pub answer-short : bufferShort ops accesses opsRoom accessesRoom ≡ true
-      → BufferShort ≡ expansionAnswer limit gap c cells stamped opsRoom accessesRoom
-  unfolding expansionAnswer refusals
-  answer-short e = rw (t₇, t₈, t₁, t₃, t₅, t₂, room true e)
-
-  pub answer-expanded : bufferShort ops accesses opsRoom accessesRoom ≡ false
-      → Expanded ops accesses ≡ expansionAnswer limit gap c cells stamped opsRoom accessesRoom
-  unfolding expansionAnswer refusals
-  answer-expanded e = rw (t₇, t₈, t₁, t₃, t₅, t₂, room false e) (cc (eo, ea))
-
--- Accepted
-
-pub record Accepted (limit gap : ℕ) (c : Call) (cells stamped opsRoom accessesRoom ops accesses : ℕ) : Type 0 where
-  pub fair : Fair limit gap c cells stamped
-  pub ops-are : ops ≡ opCount c
-  pub accesses-are : accesses ≡ accessCount c
-  pub ops-fit : OP-WIDTH * opCount c ≤ opsRoom
-  pub accesses-fit : ACCESS-WIDTH * accessCount c ≤ accessesRoom
-
-abbrev numberOf : ExpansionAnswer → ℕ
-numberOf a = expansionNumbers a .answer .number
-
-missed : (t : Bool) (x y : ExpansionAnswer) (o a : ℕ) → (numberOf x ≡ 0 → ⊥) → cond t x y ≡ Expanded o a → (t ≡ false) × (y ≡ Expanded o a)
-missed true x y o a not-zero e = absurd (not-zero (ap numberOf e))
-missed false x y o a not-zero e = (refl, e)
-
-module _ (limit gap : ℕ) (c : Call) (cells stamped opsRoom accessesRoom ops accesses : ℕ) where
-  pub accepted-is : expansionAnswer limit gap c cells stamped opsRoom accessesRoom ≡ Expanded ops accesses
-      → Accepted limit gap c cells stamped opsRoom accessesRoom ops accesses
-  unfolding expansionAnswer refusals
-  accepted-is e =
-      let p₇ = missed _ GapTooLarge _ ops accesses (λ q. omega arith) e in
-      let p₈ = missed _ BadWindow _ ops accesses (λ q. omega arith) (p₇ .1) in
-      let p₁ = missed _ LastStamp _ ops accesses (λ q. omega arith) (p₈ .1) in
-      let p₃ = missed _ NotGapApart _ ops accesses (λ q. omega arith) (p₁ .1) in
-      let p₅ = missed _ PastIndex _ ops accesses (λ q. omega arith) (p₃ .1) in
-      let p₂ = missed _ OutsideWindow _ ops accesses (λ q. omega arith) (p₅ .1) in
-      let p₉ = missed _ BufferShort _ ops accesses (λ q. omega arith) (p₂ .1) in
-      let room = or-fails (ltb opsRoom (OP-WIDTH * opCount c)) (ltb accessesRoom (ACCESS-WIDTH * accessCount c)) (p₉ .0) in
-      let made = p₉ .1 in
-      record {
-        fair = fair limit gap c cells stamped (p₇ .0) (p₈ .0) (p₁ .0) (p₃ .0) (p₅ .0) (p₂ .0);
-        ops-are = cc;
-        accesses-are = cc;
-        ops-fit = ltb-false opsRoom (OP-WIDTH * opCount c) (room .0);
-        accesses-fit = ltb-false accessesRoom (ACCESS-WIDTH * accessCount c) (room .1);
-      }
-
--- an answer of number 0 counts the call's own records
-pub accepted-zero : (limit gap : ℕ) (c : Call) (cells stamped opsRoom accessesRoom : ℕ)
-    → numberOf (expansionAnswer limit gap c cells stamped opsRoom accessesRoom) ≡ 0
-    → expansionAnswer limit gap c cells stamped opsRoom accessesRoom ≡ Expanded (opCount c) (accessCount c)
-accepted-zero limit gap c cells stamped opsRoom accessesRoom =
-    go (expansionAnswer limit gap c cells stamped opsRoom accessesRoom) refl
-  where
-    go : (a : ExpansionAnswer) → expansionAnswer limit gap c cells stamped opsRoom accessesRoom ≡ a → numberOf a ≡ 0
-        → a ≡ Expanded (opCount c) (accessCount c)
-    go (Expanded ops accesses) same e =
-        let k = accepted-is limit gap c cells stamped opsRoom accessesRoom ops accesses same in cc (k .ops-are, k .accesses-are)
-    go GapTooLarge same e = absurd (omega arith)
-    go BadWindow same e = absurd (omega arith)
-    go LastStamp same e = absurd (omega arith)
-    go NotGapApart same e = absurd (omega arith)
-    go PastIndex same e = absurd (omega arith)
-    go OutsideWindow same e = absurd (omega arith)
-    go BufferShort same e = absurd (omega arith)
+      step (suc k) e true q = omega (arith, f .index (eqb-true (c .kind) 2 q))
+      step (suc k) e false q = omega (arith, f .dest (omega arith) (eqb-false (c .kind) 2 q), f .size)

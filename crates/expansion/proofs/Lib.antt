@@ -1,4 +1,5 @@
 pub mod Judged
+pub mod Outcome
 pub mod Moved
 pub mod Cut
 pub mod CallBytes

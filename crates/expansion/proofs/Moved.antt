@@ -26,8 +26,9 @@ use Rattle.expansion_rows.proofs.RowList.{rows-none, rows-next}
 use Rattle.expansion_rows.proofs.Lengths.{row-ops-length, pass-bytes-length, pass-stamps-length, pass-accesses-length}
 use Rattle.expansion_rows.proofs.HeldOps.{row-ops-eight, ops-back, flat-ops-length, each-op, copy-held}
 use Rattle.expansion.specs.Refusals.{opCount, accessCount}
-use Rattle.expansion.specs.Expansion.{emptyOp, orEmpty, callOps, deferred, callBytes, callStamps, callAccesses, Lent, lent, expanded}
-use Rattle.expansion.proofs.Judged.{Accepted, dest-fits}
+use Rattle.expansion.specs.Tries.{Setting, Lengths, Lent, lent}
+use Rattle.expansion.specs.Expansion.{emptyOp, orEmpty, callOps, deferred, callBytes, callStamps, callAccesses, expanded}
+use Rattle.expansion.proofs.Judged.{Fair, dest-fits}
 
 -- Access records have 29 numbers
 
@@ -78,18 +79,16 @@ module _ (c : Call) (some : 0 < c .count) where
         space = omega (arith, pass-count (windowOf b s));
       }
 
--- What is accepted lies in the window
+-- A fair call lies in the window
 
-pub accepted-inside : (limit gap : ℕ) (c : Call) (cells stamped opsRoom accessesRoom ops accesses : ℕ)
-    → Accepted limit gap c cells stamped opsRoom accessesRoom ops accesses → limit < 2 ^ 64 → c .stamp < 2 ^ 64 → c .dst < 2 ^ 64
-    → 0 < c .count → CallInside c cells
-accepted-inside limit gap c cells stamped opsRoom accessesRoom ops accesses taken small stamp dst some =
-    let f = taken .fair in
+pub fair-inside : (s : Setting) (c : Call) (n : Lengths) → Fair s c n → s .limit < 2 ^ 64 → c .stamp < 2 ^ 64 → c .dst < 2 ^ 64
+    → 0 < c .count → CallInside c (n .cells)
+fair-inside s c n f small stamp dst some =
     let last : c .stamp ≡ 2 ^ 64 - 1 → ⊥ = f .stamp in
     record {
       source = f .source some;
       dest = f .dest some;
-      small = dest-fits limit gap c cells stamped f small dst;
+      small = dest-fits s c n f small dst;
       later = omega (arith, last);
     }
 

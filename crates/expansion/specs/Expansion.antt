@@ -1,11 +1,12 @@
 -- The expansion of one call over a window: operation records, accesses, and the window afterwards. Document 01: "Output: operation
 -- records and access records, into two buffers, counts in the answer. An empty call gives one row of width 1, value 0, and no access."
 -- The rows and what each does are told in expansion_rows (Rows, Turns, Held). Assumes nothing.
+use mathlib.Core.Path.{_≡_}
 use Prim.Native.Nat.{ℕ}
 use mathlib.Core.Bool.{cond}
 use mathlib.Core.List.{List, [], _∷_, _++_, flatMap}
 use lib.Dec.{eqb}
-use lib.ListN.{length, replicate}
+use lib.ListN.{replicate}
 use Rattle.lists.specs.Lists.{store}
 use Rattle.call.specs.Calls.{Call, Op}
 use Rattle.call.specs.Ops.{opRecord}
@@ -14,9 +15,8 @@ use Rattle.window.specs.Window.{Window, windowOf}
 use Rattle.expansion_rows.specs.Rows.{rowsOf}
 use Rattle.expansion_rows.specs.Turns.{rowOps, passBytes, passStamps, passAccesses}
 use Rattle.expansion_rows.specs.Held.{heldAllBytes, heldAllStamps, heldAccesses}
-use Rattle.expansion.specs.Refusals.{expansionAnswer}
-use Rattle.expansion.specs.declared.ExpansionAnswer.{ExpansionAnswer}
-use Rattle.expansion.specs.declared.ExpansionAnswer.the-variants.{Expanded, GapTooLarge, BadWindow, LastStamp, NotGapApart, PastIndex, OutsideWindow, BufferShort}
+use Rattle.expansion.specs.Tries.{Setting, Lent, lent, Try}
+use Rattle.expansion.specs.Refusals.{answered, ExpansionNumbers, withAccesses}
 
 -- the one operation record of an empty call
 abbrev pub emptyOp : Call → Op
@@ -46,16 +46,6 @@ callAccesses c m =
     passAccesses (rowsOf c) m
     ++ heldAccesses (deferred c (m .bytes)) (windowOf (passBytes (rowsOf c) (m .bytes)) (passStamps (rowsOf c) (m .stamps)))
 
--- the four lent slices
-pub record Lent : Type 0 where
-  pub bytes : List ℕ
-  pub stamps : List ℕ
-  pub ops : List ℕ
-  pub accesses : List ℕ
-
-abbrev pub lent : List ℕ → List ℕ → List ℕ → List ℕ → Lent
-lent bytes stamps ops accesses = record { bytes = bytes; stamps = stamps; ops = ops; accesses = accesses }
-
 -- after a call that is accepted: the window as the call leaves it, and its records in the buffers. Numbers past them keep their values
 unfoldable pub expanded : Call → Lent → Lent
 expanded c l =
@@ -63,21 +53,11 @@ expanded c l =
     (store (l .ops) 0 (flatMap opRecord (callOps c (l .bytes))))
     (store (l .accesses) 0 (flatMap accessRecord (callAccesses c (windowOf (l .bytes) (l .stamps)))))
 
--- the answer, windows having at most `limit` cells
-abbrev pub answerFor : ℕ → ℕ → Call → Lent → ExpansionAnswer
-answerFor limit gap c l = expansionAnswer limit gap c (length (l .bytes)) (length (l .stamps)) (length (l .ops)) (length (l .accesses))
+-- the four slices after a try: a refusal leaves all as they were
+unfoldable pub lentAfter : Setting → Try → Lent
+lentAfter s t = cond (eqb (answered s t .number) 0) (expanded (t .call) (t .slices)) (t .slices)
 
--- a refusal leaves all four as they were
-abbrev pub ifExpanded : ExpansionAnswer → Lent → Lent → Lent
-ifExpanded (Expanded ops accesses) changed kept = changed
-ifExpanded GapTooLarge changed kept = kept
-ifExpanded BadWindow changed kept = kept
-ifExpanded LastStamp changed kept = kept
-ifExpanded NotGapApart changed kept = kept
-ifExpanded PastIndex changed kept = kept
-ifExpanded OutsideWindow changed kept = kept
-ifExpanded BufferShort changed kept = kept
-
--- the four slices afterwards
-unfoldable pub lentAfter : ℕ → ℕ → Call → Lent → Lent
-lentAfter limit gap c l = ifExpanded (answerFor limit gap c l) (expanded c l) l
+-- what a function that expands has to show: the numbers that it answers, and the four slices when it is done
+pub record Done (s : Setting) (t : Try) (numbers : ExpansionNumbers) (after : Lent) : Type 0 where
+  pub answer : numbers ≡ withAccesses (t .call) (answered s t)
+  pub slices : after ≡ lentAfter s t

@@ -1,3 +1,4 @@
+pub mod Tries
 pub mod Refusals
 pub mod Expansion
 pub mod Consequences

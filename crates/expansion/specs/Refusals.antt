@@ -6,11 +6,13 @@ use mathlib.Core.List.{List, [], _∷_}
 use lib.Dec.{eqb, leb, ltb}
 use lib.ListN.{length}
 use Rattle.answer.specs.Numbers.{accepted, refused}
+use Rattle.answer.specs.Refusals.{Refusal, refuse, firstOf}
 use Rattle.answer.specs.declared.Answer.{Answer}
 use Rattle.call.specs.Calls.{Call}
 use Rattle.call.specs.Ops.{OP-WIDTH}
 use Rattle.access.specs.Access.{ACCESS-WIDTH}
 use Rattle.expansion_rows.specs.Rows.{rowsOf}
+use Rattle.expansion.specs.Tries.{Setting, Lengths, Try, lengths}
 use Rattle.expansion.specs.declared.ExpansionAnswer.{ExpansionAnswer}
 use Rattle.expansion.specs.declared.ExpansionAnswer.the-variants.{Expanded, GapTooLarge, BadWindow, LastStamp, NotGapApart, PastIndex, OutsideWindow, BufferShort}
 
@@ -22,15 +24,15 @@ opCount c = cond (eqb (c .count) 0) 1 (length (rowsOf c))
 abbrev pub accessCount : Call → ℕ
 accessCount c = cond (eqb (c .kind) 2) (length (rowsOf c)) (2 * length (rowsOf c))
 
--- The tests, in document 01's words; `cells` and `stamped` are the lengths of the window's two slices
+-- The tests, in document 01's words
 
 -- 7: "gap is 2^32 or more"
 abbrev pub gapTooLarge : ℕ → Bool
 gapTooLarge gap = leb (2 ^ 32) gap
 
 -- 8: "window slices unequal or above 65,536 cells"
-abbrev pub badWindow : ℕ → ℕ → ℕ → Bool
-badWindow limit cells stamped = not (eqb cells stamped) || ltb limit cells
+abbrev pub badWindow : ℕ → Lengths → Bool
+badWindow limit n = not (eqb (n .cells) (n .stamped)) || ltb limit (n .cells)
 
 -- 1: "expansion with stamp 2^64 − 1"
 abbrev pub lastStamp : Call → Bool
@@ -50,46 +52,38 @@ outsideWindow c cells =
     not (eqb (c .count) 0) && (ltb cells (c .src + c .count) || (not (eqb (c .kind) 2) && ltb cells (c .dst + c .count)))
 
 -- 9: "an output buffer shorter than the result"
-abbrev pub bufferShort : ℕ → ℕ → ℕ → ℕ → Bool
-bufferShort ops accesses opsRoom accessesRoom = ltb opsRoom (OP-WIDTH * ops) || ltb accessesRoom (ACCESS-WIDTH * accesses)
+abbrev pub bufferShort : ℕ → ℕ → Lengths → Bool
+bufferShort ops accesses n = ltb (n .ops) (OP-WIDTH * ops) || ltb (n .accesses) (ACCESS-WIDTH * accesses)
 
--- The list of them
-
--- a refusal, and whether it holds
-pub record Refusal : Type 0 where
-  pub answer : ExpansionAnswer
-  pub holds : Bool
-
-abbrev pub refuse : ExpansionAnswer → Bool → Refusal
-refuse answer holds = record { answer = answer; holds = holds }
-
--- the first that holds; where none does, the answer given
-abbrev pub firstRefusal : List Refusal → ExpansionAnswer → ExpansionAnswer
-firstRefusal [] answer = answer
-firstRefusal (r ∷ rs) answer = cond (r .holds) (r .answer) (firstRefusal rs answer)
-
--- all refusals in their order; a window has at most `limit` cells, and the buffers have room for so many numbers
-unfoldable pub refusals : ℕ → ℕ → Call → ℕ → ℕ → ℕ → ℕ → List Refusal
-refusals limit gap c cells stamped opsRoom accessesRoom =
-    refuse GapTooLarge (gapTooLarge gap)
-    ∷ refuse BadWindow (badWindow limit cells stamped)
-    ∷ refuse LastStamp (lastStamp c)
-    ∷ refuse NotGapApart (notGapApart gap c)
-    ∷ refuse PastIndex (pastIndex c)
-    ∷ refuse OutsideWindow (outsideWindow c cells)
-    ∷ refuse BufferShort (bufferShort (opCount c) (accessCount c) opsRoom accessesRoom)
+-- all refusals, in document 01's order
+unfoldable pub refusals : Setting → Call → Lengths → List Refusal
+refusals s c n =
+    refuse 7 (gapTooLarge (s .gap))
+    ∷ refuse 8 (badWindow (s .limit) n)
+    ∷ refuse 1 (lastStamp c)
+    ∷ refuse 3 (notGapApart (s .gap) c)
+    ∷ refuse 5 (pastIndex c)
+    ∷ refuse 2 (outsideWindow c (n .cells))
+    ∷ refuse 9 (bufferShort (opCount c) (accessCount c) n)
     ∷ []
 
--- the answer
-unfoldable pub expansionAnswer : ℕ → ℕ → Call → ℕ → ℕ → ℕ → ℕ → ExpansionAnswer
-expansionAnswer limit gap c cells stamped opsRoom accessesRoom =
-    firstRefusal (refusals limit gap c cells stamped opsRoom accessesRoom) (Expanded (opCount c) (accessCount c))
+-- the answer by the lengths of the slices; its value is the number of operation records
+unfoldable pub answerBy : Setting → Call → Lengths → Answer
+answerBy s c n = firstOf (refusals s c n) (accepted (opCount c))
 
--- document 01's number, place and value of each case, the value being the number of operation records; and the number of accesses
+-- the answer to a try
+abbrev pub answered : Setting → Try → Answer
+answered s t = answerBy s (t .call) (lengths (t .slices))
+
+-- with the number of accesses, 0 where it is refused
 pub record ExpansionNumbers : Type 0 where
   pub answer : Answer
   pub accesses : ℕ
 
+abbrev pub withAccesses : Call → Answer → ExpansionNumbers
+withAccesses c a = record { answer = a; accesses = cond (eqb (a .number) 0) (accessCount c) 0 }
+
+-- document 01's number, place and value of each case of the code's answer, and the number of accesses
 abbrev pub refusedWith : ℕ → ExpansionNumbers
 refusedWith n = record { answer = refused n 0; accesses = 0 }
 

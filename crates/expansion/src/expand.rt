@@ -8,11 +8,13 @@ ghost use Rattle.call.specs.Calls.{callOf};
 ghost use Rattle.call.specs.Ops.{opRecord, OP-WIDTH};
 ghost use Rattle.access.specs.Access.{ACCESS-WIDTH};
 ghost use Rattle.expansion_rows.specs.Inside.{CallInside};
-ghost use Rattle.expansion.specs.Refusals.{opCount, accessCount};
-ghost use Rattle.expansion.specs.Expansion.{emptyOp, lent, expanded, answerFor, lentAfter};
+ghost use Rattle.expansion.specs.Tries.{setting, lent, tryOf};
+ghost use Rattle.expansion.specs.Refusals.{opCount, accessCount, expansionNumbers};
+ghost use Rattle.expansion.specs.Expansion.{emptyOp, expanded, Done};
 use crate::ExpansionAnswer;
 use crate::judge::expansion_answer;
 use call::CopyCall;
+use call::OP_WIDTH;
 use expansion_rows::held::write_pass;
 use expansion_rows::rows::op_record;
 use expansion_rows::turns::read_pass;
@@ -24,7 +26,7 @@ fn write_empty(call: CopyCall, ops: &mut [u64])
     ensures { λ _. ⌜ now (ops .exit) ≡ store (now (ops .entry)) 0 (opRecord (emptyOp (callOf call))) ⌝ }
 {
     let numbers = op_record(call, 1, 1, [0u8; 8]);
-    put(&mut ops[0..16], &numbers);
+    put(&mut ops[0..OP_WIDTH], &numbers);
 }
 
 // A Copy of some bytes: all rows read, and then they write.
@@ -78,8 +80,7 @@ pub fn expand(
     accesses: &mut [u64],
 ) -> ExpansionAnswer
     requires { ⌜ limit ≤ 2 ^ 20 ⌝ }
-    ensures answer { λ r. ⌜ r ≡ answerFor limit gap (callOf call) (lent (now (bytes .entry)) (now (stamps .entry)) (now (ops .entry)) (now (accesses .entry))) ⌝ }
-    ensures slices { λ _. ⌜ lent (now (bytes .exit)) (now (stamps .exit)) (now (ops .exit)) (now (accesses .exit)) ≡ lentAfter limit gap (callOf call) (lent (now (bytes .entry)) (now (stamps .entry)) (now (ops .entry)) (now (accesses .entry))) ⌝ }
+    ensures { λ r. ⌜ Done (setting limit gap) (tryOf (callOf call) (lent (now (bytes .entry)) (now (stamps .entry)) (now (ops .entry)) (now (accesses .entry)))) (expansionNumbers r) (lent (now (bytes .exit)) (now (stamps .exit)) (now (ops .exit)) (now (accesses .exit))) ⌝ }
 {
     let answer = expansion_answer(
         limit,

@@ -6,9 +6,12 @@ ghost use lib.Dec.{ltb};
 ghost use lib.ListN.{length};
 ghost use Rattle.call.specs.Calls.{callOf};
 ghost use Rattle.expansion_rows.specs.Rows.{rowsOf};
-ghost use Rattle.expansion.specs.Refusals.{opCount, accessCount, notGapApart, pastIndex, outsideWindow, expansionAnswer};
+ghost use Rattle.expansion.specs.Tries.{setting, lengthsAre};
+ghost use Rattle.expansion.specs.Refusals.{opCount, accessCount, notGapApart, pastIndex, outsideWindow, answerBy, withAccesses, expansionNumbers};
 use crate::ExpansionAnswer;
+use access::ACCESS_WIDTH;
 use call::CopyCall;
+use call::OP_WIDTH;
 use expansion_rows::rows::row_count;
 
 // Whether `at + count`, a plain sum, is above `end`.
@@ -88,7 +91,7 @@ pub fn expansion_answer(
     accesses_room: usize,
 ) -> ExpansionAnswer
     requires { ⌜ limit ≤ 2 ^ 20 ⌝ }
-    ensures { λ r. ⌜ r ≡ expansionAnswer limit gap (callOf call) cells stamped «ops_room» «accesses_room» ⌝ }
+    ensures { λ r. ⌜ expansionNumbers r ≡ withAccesses (callOf call) (answerBy (setting limit gap) (callOf call) (lengthsAre cells stamped «ops_room» «accesses_room»)) ⌝ }
 {
     if 0x1_0000_0000 <= gap {
         return ExpansionAnswer::GapTooLarge;
@@ -111,7 +114,7 @@ pub fn expansion_answer(
     let rows = row_count(call);
     let ops = op_count(call, rows);
     let accesses = access_count(call, rows);
-    if (ops_room < 16 * ops) | (accesses_room < 29 * accesses) {
+    if (ops_room < OP_WIDTH * ops) | (accesses_room < ACCESS_WIDTH * accesses) {
         return ExpansionAnswer::BufferShort;
     }
     ExpansionAnswer::Expanded { ops, accesses }

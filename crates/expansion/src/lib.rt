@@ -4,10 +4,12 @@ use answer::Answer;
 use call::CopyCall;
 use call::Functionality;
 use call::kind_number;
+use records::LIMIT;
 ghost use mathlib.Core.Path.{_≡_};
 ghost use Rattle.call.specs.Calls.{callWith};
 ghost use Rattle.expansion.specs.Refusals.{expansionNumbers};
-ghost use Rattle.expansion.specs.Expansion.{lent, answerFor, lentAfter};
+ghost use Rattle.expansion.specs.Tries.{under, lent, tryOf};
+ghost use Rattle.expansion.specs.Expansion.{Done};
 
 pub mod expand;
 pub mod judge;
@@ -78,8 +80,7 @@ pub fn collect_copy_ops(
     ops: &mut [u64],
     accesses: &mut [u64],
 ) -> ExpansionAnswer
-    ensures answer { λ r. ⌜ expansionNumbers r ≡ expansionNumbers (answerFor 65536 gap (callWith kind timestamp src dst count) (lent (now (bytes .entry)) (now (stamps .entry)) (now (ops .entry)) (now (accesses .entry)))) ⌝ }
-    ensures slices { λ _. ⌜ lent (now (bytes .exit)) (now (stamps .exit)) (now (ops .exit)) (now (accesses .exit)) ≡ lentAfter 65536 gap (callWith kind timestamp src dst count) (lent (now (bytes .entry)) (now (stamps .entry)) (now (ops .entry)) (now (accesses .entry))) ⌝ }
+    ensures { λ r. ⌜ Done (under gap) (tryOf (callWith kind timestamp src dst count) (lent (now (bytes .entry)) (now (stamps .entry)) (now (ops .entry)) (now (accesses .entry)))) (expansionNumbers r) (lent (now (bytes .exit)) (now (stamps .exit)) (now (ops .exit)) (now (accesses .exit))) ⌝ }
 {
     let call = CopyCall {
         kind: kind_number(kind),
@@ -88,5 +89,5 @@ pub fn collect_copy_ops(
         dst,
         count,
     };
-    expand::expand(65536, gap, call, bytes, stamps, ops, accesses)
+    expand::expand(LIMIT, gap, call, bytes, stamps, ops, accesses)
 }

@@ -1,45 +1,46 @@
--- The cases of the definitions, by what the code has tested. Assumes nothing.
-use mathlib.Core.Path.{_≡_, ap, _∙_}
+-- The three ways out, by what the code has tested. Assumes nothing.
+use mathlib.Core.Path.{_≡_, sym, ap, _∙_}
 use mathlib.Core.List.{List, [], _∷_}
 use Prim.Native.Nat.{ℕ, _≤_, _<_}
 use borrow.Author.Tests.{eq-eqb, ne-eqb, lt-ltb, le-ltb}
-use Rattle.call.specs.Calls.{callWith, kindOf}
-use Rattle.call.specs.declared.Functionality.{Functionality}
-use Rattle.expansion.specs.Refusals.{ExpansionNumbers, expansionNumbers, refusedWith}
-use Rattle.expansion.specs.Expansion.{Lent, answerFor, lentAfter}
-use Rattle.expansion_numbers.specs.ExpansionNumbers.{flatNumbers, slicesAfter, countsAfter}
+use Rattle.answer.specs.Numbers.{refused}
+use Rattle.answer.specs.declared.Answer.{Answer}
+use Rattle.expansion.specs.Tries.{under, Lent, Try}
+use Rattle.expansion.specs.Refusals.{ExpansionNumbers}
+use Rattle.expansion.specs.Expansion.{Done}
+use Rattle.expansion_numbers.specs.ExpansionNumbers.{flatNumbers, flatAfter, FlatDone}
 
-module _ (kind stamp src dst count gap : ℕ) (l : Lent) where
-  pub ten : 2 < kind → refusedWith 10 ≡ flatNumbers kind stamp src dst count gap l
-  unfolding flatNumbers
-  ten h = rw (lt-ltb 2 kind h)
+module _ (gap : ℕ) (t : Try) (counts : List ℕ) where
+  -- a number that is no kind
+  pub ten : 2 < t .call .kind → (r : Answer) → r ≡ refused 10 0 → FlatDone gap t counts r (t .slices) counts
+  unfolding flatNumbers flatAfter
+  ten h r e = let past = lt-ltb 2 (t .call .kind) h in record { answer = rw past e; slices = rw past; counts = rw past }
 
-  pub ten-slices : 2 < kind → l ≡ slicesAfter kind stamp src dst count gap l
-  unfolding slicesAfter
-  ten-slices h = rw (lt-ltb 2 kind h)
+  -- the expansion's numbers n, and what it left
+  module _ (h : t .call .kind ≤ 2) (n : ExpansionNumbers) (after : Lent) (done : Done (under gap) t n after) (r : Answer) (e : r ≡ n .answer) where
+    same : n ≡ flatNumbers gap t
+    unfolding flatNumbers
+    same = rw (le-ltb 2 (t .call .kind) h) (done .answer)
 
-  pub ten-counts : (counts : List ℕ) → 2 < kind → counts ≡ countsAfter (flatNumbers kind stamp src dst count gap l) counts
-  unfolding flatNumbers
-  ten-counts counts h = rw (lt-ltb 2 kind h)
+    left : after ≡ flatAfter gap t
+    unfolding flatAfter
+    left = rw (le-ltb 2 (t .call .kind) h) (done .slices)
 
-  -- the answer and the slices of a kind that the number stands for
-  pub numbers : (k : Functionality) → k ≡ kindOf kind → kind ≤ 2
-      → expansionNumbers (answerFor 65536 gap (callWith k stamp src dst count) l) ≡ flatNumbers kind stamp src dst count gap l
-  unfolding flatNumbers
-  numbers k e h =
-      let here : expansionNumbers (answerFor 65536 gap (callWith (kindOf kind) stamp src dst count) l) ≡ flatNumbers kind stamp src dst count gap l = rw (le-ltb 2 kind h) in
-      ap (λ (x : Functionality). expansionNumbers (answerFor 65536 gap (callWith x stamp src dst count) l)) e ∙ here
+    answer : r ≡ flatNumbers gap t .answer
+    answer = e ∙ ap (λ (x : ExpansionNumbers). x .answer) same
 
-  pub slices : (k : Functionality) → k ≡ kindOf kind → kind ≤ 2
-      → lentAfter 65536 gap (callWith k stamp src dst count) l ≡ slicesAfter kind stamp src dst count gap l
-  unfolding slicesAfter
-  slices k e h =
-      let here : lentAfter 65536 gap (callWith (kindOf kind) stamp src dst count) l ≡ slicesAfter kind stamp src dst count gap l = rw (le-ltb 2 kind h) in
-      ap (λ (x : Functionality). lentAfter 65536 gap (callWith x stamp src dst count) l) e ∙ here
+    pub refused-flat : (r .number ≡ 0 → ⊥) → FlatDone gap t counts r after counts
+    refused-flat other =
+        let number = ap (λ (x : Answer). x .number) answer in
+        record { answer = answer; slices = left; counts = rw (ne-eqb (flatNumbers gap t .answer .number) 0 (λ z. other (number ∙ z))) }
 
-pub counts-kept : (n : ExpansionNumbers) (counts : List ℕ) → (n .answer .number ≡ 0 → ⊥) → counts ≡ countsAfter n counts
-counts-kept n counts other = rw (ne-eqb (n .answer .number) 0 other)
-
-pub counts-written : (n : ExpansionNumbers) (counts : List ℕ) → n .answer .number ≡ 0
-    → n .answer .value ∷ n .accesses ∷ [] ≡ countsAfter n counts
-counts-written n counts none = rw (eq-eqb (n .answer .number) 0 none)
+    pub taken-flat : r .number ≡ 0 → (accesses : ℕ) → accesses ≡ n .accesses → FlatDone gap t counts r after (r .value ∷ accesses ∷ [])
+    taken-flat none accesses q =
+        let number = ap (λ (x : Answer). x .number) answer in
+        let value = ap (λ (x : Answer). x .value) answer in
+        let count = q ∙ ap (λ (x : ExpansionNumbers). x .accesses) same in
+        record {
+          answer = answer;
+          slices = left;
+          counts = rw (eq-eqb (flatNumbers gap t .answer .number) 0 (sym number ∙ none)) (λ i. value i ∷ count i ∷ []);
+        }

@@ -5,8 +5,8 @@ use call::kind_of;
 use expansion::ExpansionAnswer;
 ghost use mathlib.Core.Path.{_≡_};
 ghost use Rattle.expansion.specs.Refusals.{expansionNumbers};
-ghost use Rattle.expansion.specs.Expansion.{lent};
-ghost use Rattle.expansion_numbers.specs.ExpansionNumbers.{flatNumbers, slicesAfter, countsAfter};
+ghost use Rattle.expansion.specs.Tries.{lent, tryOf};
+ghost use Rattle.expansion_numbers.specs.ExpansionNumbers.{FlatDone};
 
 // Expands a call over a window, or 10 for a kind above 2, then 7, 8, 1, 3, 5, 2 and 9.
 pub fn collect_copy_ops(
@@ -22,9 +22,7 @@ pub fn collect_copy_ops(
     accesses: &mut [u64],
     counts: &mut [u64; 2],
 ) -> Answer
-    ensures answer { λ r. ⌜ r ≡ flatNumbers kind timestamp src dst count gap (lent (now (bytes .entry)) (now (stamps .entry)) (now (ops .entry)) (now (accesses .entry))) .answer ⌝ }
-    ensures slices { λ _. ⌜ lent (now (bytes .exit)) (now (stamps .exit)) (now (ops .exit)) (now (accesses .exit)) ≡ slicesAfter kind timestamp src dst count gap (lent (now (bytes .entry)) (now (stamps .entry)) (now (ops .entry)) (now (accesses .entry))) ⌝ }
-    ensures counts { λ _. ⌜ now (counts .exit) ≡ countsAfter (flatNumbers kind timestamp src dst count gap (lent (now (bytes .entry)) (now (stamps .entry)) (now (ops .entry)) (now (accesses .entry)))) (now (counts .entry)) ⌝ }
+    ensures { λ r. ⌜ FlatDone gap (tryOf (record { kind = kind; stamp = timestamp; src = src; dst = dst; count = count }) (lent (now (bytes .entry)) (now (stamps .entry)) (now (ops .entry)) (now (accesses .entry)))) (now (counts .entry)) r (lent (now (bytes .exit)) (now (stamps .exit)) (now (ops .exit)) (now (accesses .exit))) (now (counts .exit)) ⌝ }
 {
     if 2 < kind {
         return refuse(10, 0);

@@ -20,8 +20,8 @@ ghost use Rattle.reg_access.specs.RegAccess.{built, pushed};
 ghost use Rattle.reg_access_numbers.specs.RegAccessNumbers.{accessAnswer, recordAfter};
 ghost use Rattle.memw.specs.Tables.{memwAnswer, memwAfter};
 ghost use Rattle.memw.specs.declared.AccessTable.the-variants.{General, Aligned, Register};
-ghost use Rattle.expansion.specs.Expansion.{lent};
-ghost use Rattle.expansion_numbers.specs.ExpansionNumbers.{flatNumbers, slicesAfter, countsAfter as expandedCounts};
+ghost use Rattle.expansion.specs.Tries.{lent, tryOf};
+ghost use Rattle.expansion_numbers.specs.ExpansionNumbers.{FlatDone};
 ghost use Rattle.copy_row.specs.Trace.{copyAnswer, copyAfter};
 ghost use Rattle.copy_residues.specs.Answers.{residueAnswer, residueNumbers};
 ghost use Rattle.add_pair.specs.Answers.{addPairAnswer, addPairAfter, addPairNumbers};
@@ -269,9 +269,7 @@ pub extern "C" fn collect_copy_ops(
     accesses: &mut [u64],
     counts: &mut [u64; 2],
 ) -> Answer
-    ensures answer { λ r. ⌜ r ≡ flatNumbers kind timestamp src dst count gap (lent (now (bytes .entry)) (now (stamps .entry)) (now (ops .entry)) (now (accesses .entry))) .answer ⌝ }
-    ensures slices { λ _. ⌜ lent (now (bytes .exit)) (now (stamps .exit)) (now (ops .exit)) (now (accesses .exit)) ≡ slicesAfter kind timestamp src dst count gap (lent (now (bytes .entry)) (now (stamps .entry)) (now (ops .entry)) (now (accesses .entry))) ⌝ }
-    ensures counts { λ _. ⌜ now (counts .exit) ≡ expandedCounts (flatNumbers kind timestamp src dst count gap (lent (now (bytes .entry)) (now (stamps .entry)) (now (ops .entry)) (now (accesses .entry)))) (now (counts .entry)) ⌝ }
+    ensures { λ r. ⌜ FlatDone gap (tryOf (record { kind = kind; stamp = timestamp; src = src; dst = dst; count = count }) (lent (now (bytes .entry)) (now (stamps .entry)) (now (ops .entry)) (now (accesses .entry)))) (now (counts .entry)) r (lent (now (bytes .exit)) (now (stamps .exit)) (now (ops .exit)) (now (accesses .exit))) (now (counts .exit)) ⌝ }
 {
     expansion_numbers::collect_copy_ops(
         kind,

@@ -6,3 +6,4 @@ pub mod Store
 pub mod First
 pub mod Flat
 pub mod Filled
+pub mod Listed

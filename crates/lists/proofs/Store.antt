@@ -7,8 +7,8 @@ use Prim.Native.Nat.{ℕ, _+_, _-_, _≤_, _<_, zero, suc}
 use native.Mathlib.Nat.{add-zero}
 use native.Mathlib.Numerals.{add-one}
 use native.Mathlib.Omega.{arith}
-use lib.ListN.{length, take, drop, getD, set, length-set, length-drop, drop-of-length-le}
-use lib.Seq.{sets, sets-eq, drop-cons, length-take-le, getD-take, getD-drop, drop-drop, getD-set-same, getD-set-other}
+use lib.ListN.{length, take, drop, getD, set, length-append, length-set, length-drop, drop-of-length-le}
+use lib.Seq.{take-at, sets, sets-eq, drop-cons, length-take-le, getD-take, getD-drop, drop-drop, getD-set-same, getD-set-other}
 use Rattle.lists.specs.Lists.{store}
 
 -- Stores one by one
@@ -42,6 +42,13 @@ store-sets l i (v ∷ vs) = store-sets (set l i v) (i + 1) vs ∙ ap (λ (n : �
 -- where the run fits, it stands between what was before it and what was behind it
 pub store-eq : (l : List ℕ) (i : ℕ) (vs : List ℕ) → i + length vs ≤ length l → store l i vs ≡ take i l ++ vs ++ drop (i + length vs) l
 store-eq l i vs fits = store-sets l i vs ∙ sets-eq vs l i fits
+
+-- and these are the numbers up to its end
+pub store-front : (l : List ℕ) (i : ℕ) (vs : List ℕ) → i + length vs ≤ length l → take (i + length vs) (store l i vs) ≡ take i l ++ vs
+store-front l i vs fits =
+    let n : length (take i l) ≡ i = length-take-le i l (omega arith) in
+    ap (take (i + length vs)) (store-eq l i vs fits)
+    ∙ take-at (take i l ++ vs) (drop (i + length vs) l) (i + length vs) (rw length-append (omega arith))
 
 -- a run as long as the list replaces it
 pub store-all : (l vs : List ℕ) → length l ≡ length vs → store l 0 vs ≡ vs

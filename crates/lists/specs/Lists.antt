@@ -22,6 +22,16 @@ abbrev pub All {ℓ} : {A : Type ℓ} → (A → Type 0) → List A → Type 0
 All P [] = Unit {0}
 All P (x ∷ xs) = P x × All P xs
 
+-- those that meet the test, in their order
+unfoldable pub kept : {A : Type 0} → (A → Bool) → List A → List A
+kept test [] = []
+kept test (x ∷ xs) = cond (test x) (x ∷ kept test xs) (kept test xs)
+
+-- n elements from g k on: g k, g (k + 1), ..
+unfoldable pub listed : {A : Type 0} → (ℕ → A) → ℕ → ℕ → List A
+listed g k zero = []
+listed g k (suc n) = g k ∷ listed g (k + 1) n
+
 -- What a loop writes
 
 -- l with the numbers vs stored one by one from index i on; all others keep their values

@@ -1,3 +1,4 @@
 pub mod Records
 pub mod RowCount
 pub mod Table
+pub mod RecordList

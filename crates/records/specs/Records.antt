@@ -5,7 +5,11 @@ use mathlib.Core.Bool.{Bool, not, _&&_}
 use mathlib.Core.List.{List}
 use lib.Dec.{eqb, leb}
 use lib.ListN.{length, take, drop, getD}
-use Rattle.lists.specs.Lists.{first}
+use Rattle.lists.specs.Lists.{listed, first}
+
+-- document 01's limit on the records of a list, and on the cells of a window
+abbrev pub LIMIT : ℕ
+LIMIT = 65536
 
 -- how many records a list has, a cut last one counted
 abbrev pub recordCount : ℕ → List ℕ → ℕ
@@ -14,6 +18,10 @@ recordCount w l = (length l + (w - 1)) / w
 -- record k; a cut last one is shorter
 abbrev pub recordAt : ℕ → List ℕ → ℕ → List ℕ
 recordAt w l k = take w (drop (w * k) l)
+
+-- all records, in order
+unfoldable pub recordsIn : ℕ → List ℕ → List (List ℕ)
+recordsIn w l = listed (recordAt w l) 0 (recordCount w l)
 
 -- the lowest number of r above its limit, or the number of limits
 unfoldable pub firstAbove : List ℕ → List ℕ → ℕ

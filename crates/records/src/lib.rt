@@ -5,6 +5,9 @@ ghost use Rattle.records.specs.Table.{tableNumbers};
 
 pub mod tables;
 
+// Document 01's limit on the records of a list, and on the cells of a window.
+pub const LIMIT: usize = 65536;
+
 // One case for each answer that a table maker can give. Document 01: tables refuse with "8, 10, 11, 9"; 11 is routing's alone.
 pub enum TableAnswer {
     Made { rows: usize },

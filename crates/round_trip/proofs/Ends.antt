@@ -14,33 +14,34 @@ use lib.Seq.{take-at}
 use types.Run.{OneOf, miss}
 use Rattle.lists.specs.Lists.{store}
 use Rattle.lists.proofs.Store.{length-store, store-eq}
+use Rattle.records.specs.Records.{LIMIT}
 use Rattle.records.specs.RowCount.{rowCount}
 use Rattle.records.specs.declared.TableAnswer.{TableAnswer}
 use Rattle.records.specs.declared.TableAnswer.the-variants.{Made}
 use Rattle.call.specs.Ops.{OP-WIDTH}
 use Rattle.call.specs.Flat.{CALL-WIDTH}
-use Rattle.expansion.specs.Expansion.{Lent}
+use Rattle.expansion.specs.Tries.{Lent}
 use Rattle.copy_row.specs.Columns.{COLUMNS}
 use Rattle.copy_row.specs.Trace.{copyAnswer, copyAfter}
 use Rattle.copy_row.proofs.CopyTable.{made-facts, after-length}
 use Rattle.read_back.specs.ReadBack.{readBackAnswer, opsAfter, callsAfter}
 use Rattle.read_back.specs.declared.ReadBackAnswer.{ReadBackAnswer}
-use Rattle.call_list.specs.CallList.{callsIn, allExpanded}
-use Rattle.call_list.proofs.Counted.{records-fit}
-use Rattle.round_trip.specs.Trip.{Trip, recordsIn, maker, tableMade, written, RoundTripNumbers, tripNumbers, roundTripNumbers, slicesAfter, tableAfter, opsBackAfter, callsBackAfter}
-use Rattle.round_trip.specs.Legs.{decided, Ran}
+use Rattle.calls_in_turn.specs.InTurn.{callsIn, allExpanded}
+use Rattle.calls_in_turn.proofs.Counted.{records-fit}
+use Rattle.round_trip.specs.Trip.{TripLent, Trip, settingOf, recordsHanded, tableMade, written, RoundTripNumbers, tripNumbers, roundTripNumbers, tripRun, tripAfter, Ended}
+use Rattle.round_trip.specs.Legs.{decided, Tabled}
 use Rattle.round_trip.specs.RoundTrip.{TypedTrip}
 use Rattle.round_trip.specs.declared.RoundTripAnswer.{RoundTripAnswer}
 use Rattle.round_trip.specs.declared.RoundTripAnswer.the-variants.{Passed, TooManyRecords, BufferShort}
-use Rattle.round_trip.proofs.Whole.{records-length, decidedOf, made, decided-is}
 use Rattle.round_trip.proofs.RoundTripAnswer.{the-type}
+use Rattle.round_trip.proofs.Whole.{records-length, decidedOf, made, decided-is}
 
 -- `decide`
 
 module _ (n m tableRoom opsRoom callsRoom : ℕ) where
   -- what a pass has found out
   pub record Found (rows ops calls : ℕ) : Type 0 where
-    pub few : n ≤ 65536
+    pub few : n ≤ LIMIT
     pub rows-are : rows ≡ rowCount n
     pub ops-are : ops ≡ n
     pub calls-are : calls ≡ m
@@ -50,103 +51,97 @@ module _ (n m tableRoom opsRoom callsRoom : ℕ) where
   unfolding decided
   decided-found rows ops calls e = go _ _ (ltb opsRoom (OP-WIDTH * n) || ltb callsRoom (CALL-WIDTH * m)) refl refl e
     where
-      go : (x y z : Bool) → ltb 65536 n ≡ x → ltb tableRoom (COLUMNS * rowCount n) ≡ y
+      go : (x y z : Bool) → ltb LIMIT n ≡ x → ltb tableRoom (COLUMNS * rowCount n) ≡ y
           → cond x TooManyRecords (cond y BufferShort (cond z BufferShort (Passed (rowCount n) n m))) ≡ Passed rows ops calls
           → Found rows ops calls
       go true y z p q e = let never : _≡_ {A = ℕ} 0 1 = cc in absurd (omega arith)
       go false true z p q e = let never : _≡_ {A = ℕ} 0 1 = cc in absurd (omega arith)
       go false false true p q e = let never : _≡_ {A = ℕ} 0 1 = cc in absurd (omega arith)
       go false false false p q e =
-          record { few = ltb-false 65536 n p; rows-are = cc; ops-are = cc; calls-are = cc; room = ltb-false tableRoom _ q }
+          record { few = ltb-false LIMIT n p; rows-are = cc; ops-are = cc; calls-are = cc; room = ltb-false tableRoom _ q }
 
 -- `run`
 
-module _ (t : Trip) (n rows : ℕ) (tabled : maker t ≡ Made rows) (wide : length (recordsIn t) ≡ OP-WIDTH * n) where
-  pub ops-room : OP-WIDTH * n ≤ length (t .slices .ops)
-  ops-room = omega (arith, records-fit (t .gap) (callsIn (t .calls)) (t .slices))
+module _ (t : Trip) (n rows : ℕ) (tabled : Tabled t n rows) where
+  pub ops-room : OP-WIDTH * n ≤ length (t .lists .slices .ops)
+  ops-room = omega (arith, tabled .records, records-fit (settingOf t) (callsIn (t .calls)) (t .lists .slices))
 
-  pub table-room : COLUMNS * rows ≤ length (t .table)
-  table-room = made-facts 65536 (recordsIn t) (length (t .table)) rows tabled .fits
+  pub table-room : COLUMNS * rows ≤ length (t .lists .table)
+  table-room = made-facts LIMIT (recordsHanded t) (length (t .lists .table)) rows (tabled .made) .fits
 
-  module _ (slices : Lent) (expanded : slices ≡ allExpanded (t .gap) (callsIn (t .calls)) (t .slices)) where
+  module _ (slices : Lent) (expanded : slices ≡ allExpanded (settingOf t) (callsIn (t .calls)) (t .lists .slices)) where
     pub ops-kept : OP-WIDTH * n ≤ length (slices .ops)
     unfolding allExpanded
-    ops-kept = omega (arith, ops-room, ap (λ (x : Lent). length (x .ops)) expanded, length-store (t .slices .ops) 0 (recordsIn t))
+    ops-kept = omega (arith, ops-room, ap (λ (x : Lent). length (x .ops)) expanded, length-store (t .lists .slices .ops) 0 (recordsHanded t))
 
     -- the part of the record buffer that is lent
-    lent-records : take (OP-WIDTH * n - 0) (slices .ops) ≡ recordsIn t
+    lent-records : take (OP-WIDTH * n - 0) (slices .ops) ≡ recordsHanded t
     unfolding allExpanded
     lent-records =
-        let stored : slices .ops ≡ store (t .slices .ops) 0 (recordsIn t) = ap (λ (x : Lent). x .ops) expanded in
+        let stored : slices .ops ≡ store (t .lists .slices .ops) 0 (recordsHanded t) = ap (λ (x : Lent). x .ops) expanded in
         rw sub-zero
-        (ap (take (OP-WIDTH * n)) (stored ∙ store-eq (t .slices .ops) 0 (recordsIn t) (omega (arith, ops-room)))
-        ∙ take-at (recordsIn t) _ (OP-WIDTH * n) wide)
+        (ap (take (OP-WIDTH * n)) (stored ∙ store-eq (t .lists .slices .ops) 0 (recordsHanded t) (omega (arith, ops-room, tabled .records)))
+        ∙ take-at (recordsHanded t) _ (OP-WIDTH * n) (tabled .records))
 
     module _
         (table : List ℕ)
         (written-table : let part = take (OP-WIDTH * n - 0) (slices .ops) in
-        table ≡ copyAfter part (copyAnswer 65536 part (length (t .table))) (t .table)) where
+        table ≡ copyAfter part (copyAnswer LIMIT part (length (t .lists .table))) (t .lists .table)) where
       made-table : table ≡ tableMade t rows
       made-table =
           written-table
-          ∙ ap (λ r. copyAfter r (copyAnswer 65536 r (length (t .table))) (t .table)) lent-records
-          ∙ ap (λ (a : TableAnswer). copyAfter (recordsIn t) a (t .table)) tabled
+          ∙ ap (λ r. copyAfter r (copyAnswer LIMIT r (length (t .lists .table))) (t .lists .table)) lent-records
+          ∙ ap (λ (a : TableAnswer). copyAfter (recordsHanded t) a (t .lists .table)) (tabled .made)
 
       pub table-kept : COLUMNS * rows ≤ length table
-      table-kept = omega (arith, table-room, ap length made-table, after-length (recordsIn t) (Made rows) (t .table))
+      table-kept = omega (arith, table-room, ap length made-table, after-length (recordsHanded t) (Made rows) (t .lists .table))
 
       -- and of the table: the rows written
       lent-rows : take (COLUMNS * rows - 0) table ≡ written t rows
       lent-rows = rw sub-zero (ap (take (COLUMNS * rows)) made-table)
 
       pub ran : (opsBack callsBack : List ℕ) → let l = take (COLUMNS * rows - 0) table in
-          let answer = readBackAnswer (t .gap) l (length (t .opsBack)) (length (t .callsBack)) in
-          opsBack ≡ opsAfter answer l (t .opsBack) → callsBack ≡ callsAfter answer l (t .callsBack)
-          → Ran t rows slices table opsBack callsBack
+          let answer = readBackAnswer (t .gap) l (length (t .lists .opsBack)) (length (t .lists .callsBack)) in
+          opsBack ≡ opsAfter answer l (t .lists .opsBack) → callsBack ≡ callsAfter answer l (t .lists .callsBack)
+          → record { slices = slices; table = table; opsBack = opsBack; callsBack = callsBack } ≡ tripRun t rows
+      unfolding tripRun
       ran opsBack callsBack a b =
-          let told : List ℕ → ReadBackAnswer = λ l. readBackAnswer (t .gap) l (length (t .opsBack)) (length (t .callsBack)) in
-          record {
-            expanded = expanded;
-            made = made-table;
-            ops = a ∙ ap (λ l. opsAfter (told l) l (t .opsBack)) lent-rows;
-            calls = b ∙ ap (λ l. callsAfter (told l) l (t .callsBack)) lent-rows;
-          }
+          let told : List ℕ → ReadBackAnswer = λ l. readBackAnswer (t .gap) l (length (t .lists .opsBack)) (length (t .lists .callsBack)) in
+          let ops = a ∙ ap (λ l. opsAfter (told l) l (t .lists .opsBack)) lent-rows in
+          let calls = b ∙ ap (λ l. callsAfter (told l) l (t .lists .callsBack)) lent-rows in
+          λ i. record { slices = expanded i; table = made-table i; opsBack = ops i; callsBack = calls i }
 
 -- `round_trip`
-
--- the trip has ended with these lent slices
-abbrev pub Ended : Trip → RoundTripAnswer → Lent → List ℕ → List ℕ → List ℕ → Type 0
-Ended t a slices table opsBack callsBack =
-    (roundTripNumbers a ≡ tripNumbers t)
-    × ((slices ≡ slicesAfter t) × ((table ≡ tableAfter t) × ((opsBack ≡ opsBackAfter t) × (callsBack ≡ callsBackAfter t))))
 
 module _ (t : Trip) (typed : TypedTrip t) (a : RoundTripAnswer) (e : a ≡ decidedOf t) where
   numbers : roundTripNumbers a ≡ tripNumbers t
   numbers = ap roundTripNumbers e ∙ decided-is t typed
 
   -- `run` may go on
-  pub may-run : (rows ops calls : ℕ) → a ≡ Passed rows ops calls → (maker t ≡ Made rows) × (length (recordsIn t) ≡ OP-WIDTH * ops)
+  pub may-run : (rows ops calls : ℕ) → a ≡ Passed rows ops calls → Tabled t ops rows
   may-run rows ops calls q =
       let f = decided-found _ _ _ _ _ rows ops calls (sym e ∙ q) in
-      (made t typed (f .few) (f .room) ∙ ap Made (sym (f .rows-are)), records-length t ∙ ap (λ n. OP-WIDTH * n) (sym (f .ops-are)))
+      record {
+        made = made t typed (f .few) (f .room) ∙ ap Made (sym (f .rows-are));
+        records = records-length t ∙ ap (λ n. OP-WIDTH * n) (sym (f .ops-are));
+      }
 
-  pub ended-through : (rows ops calls : ℕ) → a ≡ Passed rows ops calls → (slices : Lent) (table opsBack callsBack : List ℕ)
-      → Ran t rows slices table opsBack callsBack → Ended t a slices table opsBack callsBack
-  unfolding slicesAfter tableAfter opsBackAfter callsBackAfter
-  ended-through rows ops calls q slices table opsBack callsBack r =
+  pub ended-through : (rows ops calls : ℕ) → a ≡ Passed rows ops calls → (after : TripLent) → after ≡ tripRun t rows
+      → Ended t (roundTripNumbers a) after
+  unfolding tripAfter
+  ended-through rows ops calls q after r =
       let told : tripNumbers t ≡ roundTripNumbers (Passed rows ops calls) = sym numbers ∙ ap roundTripNumbers q in
       let none : eqb (tripNumbers t .answer .number) 0 ≡ true = ap (λ (x : RoundTripNumbers). eqb (x .answer .number) 0) told in
       let same : tripNumbers t .rows ≡ rows = ap (λ (x : RoundTripNumbers). x .rows) told in
-      (numbers, (rw none (r .expanded), (rw (none, same) (r .made), (rw (none, same) (r .ops), rw (none, same) (r .calls)))))
+      record { answer = numbers; lists = rw (none, same) r }
 
   -- a refusal writes nothing; its case is not the first, which is Passed
-  pub ended-refused : OneOf (1 ∷ 2 ∷ []) (tagOf the-type a) → Ended t a (t .slices) (t .table) (t .opsBack) (t .callsBack)
-  unfolding slicesAfter tableAfter opsBackAfter callsBackAfter
+  pub ended-refused : OneOf (1 ∷ 2 ∷ []) (tagOf the-type a) → Ended t (roundTripNumbers a) (t .lists)
+  unfolding tripAfter
   ended-refused h =
-      let told = numbers in
       let other : eqb (tripNumbers t .answer .number) 0 ≡ false =
-      ap (λ (x : RoundTripNumbers). eqb (x .answer .number) 0) (sym told) ∙ go a h in
-      (told, (rw other, (rw other, (rw other, rw other))))
+      ap (λ (x : RoundTripNumbers). eqb (x .answer .number) 0) (sym numbers) ∙ go a h in
+      record { answer = numbers; lists = rw other }
     where
       go : (b : RoundTripAnswer) → OneOf (1 ∷ 2 ∷ []) (tagOf the-type b) → eqb (roundTripNumbers b .answer .number) 0 ≡ false
       go (Passed rows ops calls) h = absurd (miss (1 ∷ 2 ∷ []) 0 tt h)

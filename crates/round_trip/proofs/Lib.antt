@@ -1,4 +1,3 @@
-pub mod Answers
 pub mod Whole
 pub mod Ends
 pub mod RoundTrip

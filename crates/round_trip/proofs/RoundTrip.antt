@@ -5,10 +5,10 @@ use mathlib.Core.Logic.{_⊎_, inl, inr}
 use Prim.Native.Nat.{ℕ, _≤_, _<_}
 use native.Mathlib.Omega.{arith}
 use lib.Dec.{eqb}
+use Rattle.records.specs.Records.{LIMIT}
 use Rattle.records.specs.RowCount.{rowCount}
-use Rattle.read_back.specs.ReadBack.{opsAfter, callsAfter}
 use Rattle.demand.specs.Demand.{Passes}
-use Rattle.round_trip.specs.Trip.{Trip, written, reader, RoundTripNumbers, tripNumbers, opsBackAfter, callsBackAfter}
+use Rattle.round_trip.specs.Trip.{TripLent, Trip, written, RoundTripNumbers, tripNumbers, tripRun, tripAfter}
 use Rattle.round_trip.specs.RoundTrip.{TypedTrip, numberOf, recordsCount, rowsCount, Short, CameBack, RoundTrip}
 use Rattle.round_trip.proofs.Whole.{recordsOf, records-length, calls-length, ShortOf, Way, over, short, passed, way, trip-over, trip-short, trip-passed, by-demand, read-ops, read-calls}
 
@@ -42,30 +42,30 @@ module _ (t : Trip) where
         go (short few h) = inr (inr (number (trip-short t typed few h)))
         go (passed few room a b) = inl (number (trip-passed t typed few room a b))
 
-    eight-over : numberOf t ≡ 8 → 65536 < recordsCount t
+    eight-over : numberOf t ≡ 8 → LIMIT < recordsCount t
     eight-over e = go (way t)
       where
-        go : Way t → 65536 < recordsCount t
+        go : Way t → LIMIT < recordsCount t
         go (over h) = omega (arith, count-is)
         go (short few h) = absurd (omega (arith, number (trip-short t typed few h)))
         go (passed few room a b) = absurd (omega (arith, number (trip-passed t typed few room a b)))
 
-    over-eight : 65536 < recordsCount t → numberOf t ≡ 8
+    over-eight : LIMIT < recordsCount t → numberOf t ≡ 8
     over-eight h = number (trip-over t typed (omega (arith, count-is)))
 
-    nine-short : numberOf t ≡ 9 → (recordsCount t ≤ 65536) × Short t
+    nine-short : numberOf t ≡ 9 → (recordsCount t ≤ LIMIT) × Short t
     nine-short e = go (way t)
       where
-        go : Way t → (recordsCount t ≤ 65536) × Short t
+        go : Way t → (recordsCount t ≤ LIMIT) × Short t
         go (over h) = absurd (omega (arith, number (trip-over t typed h)))
         go (short few h) = (omega (arith, count-is), short-lists h)
         go (passed few room a b) = absurd (omega (arith, number (trip-passed t typed few room a b)))
 
-    short-nine : (recordsCount t ≤ 65536) × Short t → numberOf t ≡ 9
+    short-nine : (recordsCount t ≤ LIMIT) × Short t → numberOf t ≡ 9
     short-nine h = number (trip-short t typed (omega (arith, count-is, h .0)) (short-counts (h .1)))
 
     back : numberOf t ≡ 0 → CameBack t
-    unfolding opsBackAfter callsBackAfter
+    unfolding tripAfter tripRun
     back e = go (way t)
       where
         go : Way t → CameBack t
@@ -74,23 +74,15 @@ module _ (t : Trip) where
         go (passed few room a b) =
             let told = trip-passed t typed few room a b in
             let rows : tripNumbers t .rows ≡ rowCount (recordsOf t) = ap (λ (x : RoundTripNumbers). x .rows) told in
+            let after : tripAfter t ≡ tripRun t (rowCount (recordsOf t)) =
+            ap (λ (x : RoundTripNumbers). cond (eqb (x .answer .number) 0) (tripRun t (x .rows)) (t .lists)) told in
             record {
               rows = rows ∙ rows-are;
               records = ap (λ (x : RoundTripNumbers). x .answer .value) told ∙ sym count-is;
               calls = ap (λ (x : RoundTripNumbers). x .calls) told ∙ omega (arith, calls-length t);
               passes = subst (λ (n : ℕ). Passes (t .gap) (written t n)) (sym rows) (by-demand t typed few room .0);
-              ops-back =
-                  ap
-                  (λ (x : RoundTripNumbers).
-                  cond (eqb (x .answer .number) 0) (opsAfter (reader t (x .rows)) (written t (x .rows)) (t .opsBack)) (t .opsBack))
-                  told
-                  ∙ read-ops t typed few room a b;
-              calls-back =
-                  ap
-                  (λ (x : RoundTripNumbers).
-                  cond (eqb (x .answer .number) 0) (callsAfter (reader t (x .rows)) (written t (x .rows)) (t .callsBack)) (t .callsBack))
-                  told
-                  ∙ read-calls t typed few room a b;
+              ops-back = ap (λ (x : TripLent). x .opsBack) after ∙ read-ops t typed few room a b;
+              calls-back = ap (λ (x : TripLent). x .callsBack) after ∙ read-calls t typed few room a b;
             }
 
 pub round-trip : RoundTrip

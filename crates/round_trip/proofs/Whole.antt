@@ -13,12 +13,15 @@ use lib.Dec.{ltb, leb}
 use lib.ListN.{length}
 use Rattle.answer.specs.Numbers.{accepted, refused}
 use Rattle.lists.specs.Lists.{store, All}
+use Rattle.lists.proofs.Joined.{flatMap-length}
+use Rattle.records.specs.Records.{LIMIT, recordsIn}
 use Rattle.records.specs.RowCount.{rowCount}
 use Rattle.records.specs.declared.TableAnswer.{TableAnswer}
 use Rattle.records.specs.declared.TableAnswer.the-variants as table
 use Rattle.call.specs.Ops.{opRecord, OP-WIDTH}
-use Rattle.call.specs.Flat.{CALL-WIDTH}
+use Rattle.call.specs.Flat.{CALL-WIDTH, HANDED-WIDTH}
 use Rattle.call.specs.Cuts.{CutCall, opsOf}
+use Rattle.expansion.specs.Tries.{lengths, Typed}
 use Rattle.copy_row.specs.Columns.{COLUMNS}
 use Rattle.copy_row.specs.Trace.{copyAnswer}
 use Rattle.copy_meaning.specs.Steps.{LiveStep}
@@ -26,17 +29,17 @@ use Rattle.calls.proofs.Chained.{chain}
 use Rattle.read_back.specs.ReadBack.{opsAfter, callsAfter}
 use Rattle.read_back.specs.declared.ReadBackAnswer.{ReadBackAnswer}
 use Rattle.read_back.specs.declared.ReadBackAnswer.the-variants as read
-use Rattle.demand.specs.Demand as demand
-use Rattle.demand.specs.Demand.{Typed, Passes, ReadsBack}
-use Rattle.demand.proofs.RowLists.{flatMap-length}
+use Rattle.calls_in_turn.specs.Accepted.{acceptedOf}
+use Rattle.calls_in_turn.specs.InTurn.{callsIn}
+use Rattle.calls_in_turn.specs.Counts.{allRecords, allCalls}
+use Rattle.calls_in_turn.proofs.Counted.{records-counted, calls-counted}
+use Rattle.calls_in_turn.proofs.Typed.{calls-words, tries-typed}
+use Rattle.demand.specs.Demand.{Passes, ReadsBack}
 use Rattle.demand.proofs.Whole.{steps}
 use Rattle.demand.proofs.GoodRecords.{records-wide, maker-answer}
 use Rattle.demand.proofs.Accepted.{cutTry, tries-fit, tries-wrote}
 use Rattle.demand.proofs.Demand.{demand3}
-use Rattle.call_list.specs.CallList.{callsIn}
-use Rattle.call_list.proofs.Counted as counted
-use Rattle.call_list.proofs.Typed.{calls-wide, tries-typed}
-use Rattle.round_trip.specs.Trip.{Trip, tries, recordsIn, callsHanded, maker, written, reader, RoundTripNumbers, refusedBy, fromReader, onMaker, tripNumbers, roundTripNumbers}
+use Rattle.round_trip.specs.Trip.{Trip, settingOf, tries, recordsHanded, callsHanded, maker, written, reader, RoundTripNumbers, refusedBy, fromReader, onMaker, tripNumbers, roundTripNumbers}
 use Rattle.round_trip.specs.Legs.{decided}
 use Rattle.round_trip.specs.RoundTrip.{TypedTrip}
 use Rattle.round_trip.specs.declared.RoundTripAnswer.{RoundTripAnswer}
@@ -44,16 +47,16 @@ use Rattle.round_trip.specs.declared.RoundTripAnswer.the-variants.{TooMa
 
 -- how many records and calls go in
 abbrev pub recordsOf : Trip → ℕ
-recordsOf t = counted.recordsIn (t .gap) (callsIn (t .calls)) (t .slices)
+recordsOf t = allRecords (settingOf t) (callsIn (t .calls)) (lengths (t .lists .slices))
 
 abbrev pub callsOf : Trip → ℕ
-callsOf t = counted.callsAccepted (t .gap) (callsIn (t .calls)) (t .slices)
+callsOf t = allCalls (settingOf t) (callsIn (t .calls)) (lengths (t .lists .slices))
 
-pub records-length : (t : Trip) → length (recordsIn t) ≡ OP-WIDTH * recordsOf t
-records-length t = counted.records-counted (t .gap) (callsIn (t .calls)) (t .slices)
+pub records-length : (t : Trip) → length (recordsHanded t) ≡ OP-WIDTH * recordsOf t
+records-length t = records-counted (settingOf t) (callsIn (t .calls)) (t .lists .slices)
 
 pub calls-length : (t : Trip) → length (callsHanded t) ≡ CALL-WIDTH * callsOf t
-calls-length t = counted.calls-counted (t .gap) (callsIn (t .calls)) (t .slices)
+calls-length t = calls-counted (settingOf t) (callsIn (t .calls)) (t .lists .slices)
 
 -- what is answered where nothing is refused
 abbrev pub through : Trip → RoundTripNumbers
@@ -62,26 +65,26 @@ through t = record { answer = accepted (recordsOf t); rows = rowCount (recordsOf
 -- a buffer is short
 abbrev pub ShortOf : Trip → Type 0
 ShortOf t =
-    (length (t .table) < COLUMNS * rowCount (recordsOf t))
-    ⊎ (length (t .opsBack) < OP-WIDTH * recordsOf t)
-    ⊎ (length (t .callsBack) < CALL-WIDTH * callsOf t)
+    (length (t .lists .table) < COLUMNS * rowCount (recordsOf t))
+    ⊎ (length (t .lists .opsBack) < OP-WIDTH * recordsOf t)
+    ⊎ (length (t .lists .callsBack) < CALL-WIDTH * callsOf t)
 
 -- the answer by counts
 abbrev pub decidedOf : Trip → RoundTripAnswer
-decidedOf t = decided (recordsOf t) (callsOf t) (length (t .table)) (length (t .opsBack)) (length (t .callsBack))
+decidedOf t = decided (recordsOf t) (callsOf t) (length (t .lists .table)) (length (t .lists .opsBack)) (length (t .lists .callsBack))
 
 -- the three ways
 pub data Way (t : Trip) : Type 0 where
-  over : 65536 < recordsOf t → Way t
-  short : recordsOf t ≤ 65536 → ShortOf t → Way t
-  passed : recordsOf t ≤ 65536 → COLUMNS * rowCount (recordsOf t) ≤ length (t .table) → OP-WIDTH * recordsOf t ≤ length (t .opsBack)
-      → CALL-WIDTH * callsOf t ≤ length (t .callsBack) → Way t
+  over : LIMIT < recordsOf t → Way t
+  short : recordsOf t ≤ LIMIT → ShortOf t → Way t
+  passed : recordsOf t ≤ LIMIT → COLUMNS * rowCount (recordsOf t) ≤ length (t .lists .table) → OP-WIDTH * recordsOf t ≤ length (t .lists .opsBack)
+      → CALL-WIDTH * callsOf t ≤ length (t .lists .callsBack) → Way t
 
 pub way : (t : Trip) → Way t
 way t = go _ _ _ _ refl refl refl refl
   where
-    go : (x y z w : Bool) → ltb 65536 (recordsOf t) ≡ x → leb (COLUMNS * rowCount (recordsOf t)) (length (t .table)) ≡ y
-        → leb (OP-WIDTH * recordsOf t) (length (t .opsBack)) ≡ z → leb (CALL-WIDTH * callsOf t) (length (t .callsBack)) ≡ w → Way t
+    go : (x y z w : Bool) → ltb LIMIT (recordsOf t) ≡ x → leb (COLUMNS * rowCount (recordsOf t)) (length (t .lists .table)) ≡ y
+        → leb (OP-WIDTH * recordsOf t) (length (t .lists .opsBack)) ≡ z → leb (CALL-WIDTH * callsOf t) (length (t .lists .callsBack)) ≡ w → Way t
     go true y z w p q r s = over (ltb-true _ _ p)
     go false false z w p q r s = short (ltb-false _ _ p) (inl (leb-false _ _ q))
     go false true false w p q r s = short (ltb-false _ _ p) (inr (inl (leb-false _ _ r)))
@@ -92,16 +95,16 @@ way t = go _ _ _ _ refl refl refl refl
 
 module _ (t : Trip) (typed : TypedTrip t) where
   pub all-typed : All Typed (tries t)
-  unfolding callsIn
-  all-typed = tries-typed (t .gap) (callsIn (t .calls)) (t .slices) (calls-wide _ (t .calls) (typed .calls)) (typed .bytes)
+  all-typed =
+      tries-typed (settingOf t) (callsIn (t .calls)) (t .lists .slices) (calls-words (recordsIn HANDED-WIDTH (t .calls))) (typed .bytes)
 
   abbrev ks : List CutCall
-  ks = map cutTry (demand.accepted (t .gap) (tries t))
+  ks = map cutTry (acceptedOf (settingOf t) (tries t))
 
   live : All (LiveStep (t .gap)) (opsOf ks)
   live = steps (t .gap) none (opsOf ks) (chain (t .gap) ks (tries-fit (t .gap) (tries t) all-typed))
 
-  wrote : recordsIn t ≡ flatMap opRecord (opsOf ks)
+  wrote : recordsHanded t ≡ flatMap opRecord (opsOf ks)
   wrote = tries-wrote (t .gap) (tries t) all-typed
 
   ops-count : length (opsOf ks) ≡ recordsOf t
@@ -110,29 +113,29 @@ module _ (t : Trip) (typed : TypedTrip t) where
 
   abbrev makerFor : ℕ → TableAnswer
   makerFor n =
-      cond (ltb 65536 n) table.TooManyRecords
-      (cond (leb (COLUMNS * rowCount n) (length (t .table))) (table.Made (rowCount n)) table.BufferShort)
+      cond (ltb LIMIT n) table.TooManyRecords
+      (cond (leb (COLUMNS * rowCount n) (length (t .lists .table))) (table.Made (rowCount n)) table.BufferShort)
 
   maker-is : maker t ≡ makerFor (recordsOf t)
   maker-is =
-      ap (λ r. copyAnswer 65536 r (length (t .table))) wrote
-      ∙ maker-answer (t .gap) 65536 (length (t .table)) (opsOf ks) live
+      ap (λ r. copyAnswer LIMIT r (length (t .lists .table))) wrote
+      ∙ maker-answer (t .gap) LIMIT (length (t .lists .table)) (opsOf ks) live
       ∙ ap makerFor ops-count
 
-  pub trip-over : 65536 < recordsOf t → tripNumbers t ≡ refusedBy (refused 8 0)
+  pub trip-over : LIMIT < recordsOf t → tripNumbers t ≡ refusedBy (refused 8 0)
   unfolding tripNumbers
   trip-over h =
       let made : maker t ≡ table.TooManyRecords = maker-is ∙ rw (lt-ltb _ _ h) in
       ap (λ (a : TableAnswer). onMaker a (λ rows. fromReader rows (reader t rows))) made
 
-  module _ (few : recordsOf t ≤ 65536) where
-    trip-unmade : length (t .table) < COLUMNS * rowCount (recordsOf t) → tripNumbers t ≡ refusedBy (refused 9 0)
+  module _ (few : recordsOf t ≤ LIMIT) where
+    trip-unmade : length (t .lists .table) < COLUMNS * rowCount (recordsOf t) → tripNumbers t ≡ refusedBy (refused 9 0)
     unfolding tripNumbers
     trip-unmade h =
         let made : maker t ≡ table.BufferShort = maker-is ∙ rw (le-ltb _ _ few, lt-leb _ _ h) in
         ap (λ (a : TableAnswer). onMaker a (λ rows. fromReader rows (reader t rows))) made
 
-    module _ (room : COLUMNS * rowCount (recordsOf t) ≤ length (t .table)) where
+    module _ (room : COLUMNS * rowCount (recordsOf t) ≤ length (t .lists .table)) where
       abbrev rows : ℕ
       rows = rowCount (recordsOf t)
 
@@ -141,52 +144,52 @@ module _ (t : Trip) (typed : TypedTrip t) where
 
       -- demand 3
       pub by-demand : Passes (t .gap) (written t rows)
-          × ((ops calls : List ℕ) → ReadsBack (t .gap) (written t rows) (recordsIn t) (callsHanded t) ops calls)
-      by-demand = demand3 .made (t .gap) (typed .gap) (tries t) all-typed (t .table) rows made
+          × ((ops calls : List ℕ) → ReadsBack (t .gap) (written t rows) (recordsHanded t) (callsHanded t) ops calls)
+      by-demand = demand3 .made (t .gap) (typed .gap) (tries t) all-typed (t .lists .table) rows made
 
       on-reader : (a : ReadBackAnswer) → reader t rows ≡ a → tripNumbers t ≡ fromReader rows a
       unfolding tripNumbers
       on-reader a e = ap (λ (x : TableAnswer). onMaker x (λ n. fromReader n (reader t n))) made ∙ ap (fromReader rows) e
 
-      pub trip-unread : (length (t .opsBack) < OP-WIDTH * recordsOf t) ⊎ (length (t .callsBack) < CALL-WIDTH * callsOf t)
+      pub trip-unread : (length (t .lists .opsBack) < OP-WIDTH * recordsOf t) ⊎ (length (t .lists .callsBack) < CALL-WIDTH * callsOf t)
           → tripNumbers t ≡ refusedBy (refused 9 0)
-      trip-unread h = on-reader read.BufferShort (by-demand .1 (t .opsBack) (t .callsBack) .short (go h))
+      trip-unread h = on-reader read.BufferShort (by-demand .1 (t .lists .opsBack) (t .lists .callsBack) .short (go h))
         where
-          go : (length (t .opsBack) < OP-WIDTH * recordsOf t) ⊎ (length (t .callsBack) < CALL-WIDTH * callsOf t)
-              → (length (t .opsBack) < length (recordsIn t)) ⊎ (length (t .callsBack) < length (callsHanded t))
+          go : (length (t .lists .opsBack) < OP-WIDTH * recordsOf t) ⊎ (length (t .lists .callsBack) < CALL-WIDTH * callsOf t)
+              → (length (t .lists .opsBack) < length (recordsHanded t)) ⊎ (length (t .lists .callsBack) < length (callsHanded t))
           go (inl h) = inl (omega (arith, records-length t))
           go (inr h) = inr (omega (arith, calls-length t))
 
-      module _ (a : OP-WIDTH * recordsOf t ≤ length (t .opsBack)) (b : CALL-WIDTH * callsOf t ≤ length (t .callsBack)) where
-        back : (reader t rows ≡ read.Read (length (recordsIn t) / OP-WIDTH) (length (callsHanded t) / CALL-WIDTH))
-            × (opsAfter (reader t rows) (written t rows) (t .opsBack) ≡ store (t .opsBack) 0 (recordsIn t))
-            × (callsAfter (reader t rows) (written t rows) (t .callsBack) ≡ store (t .callsBack) 0 (callsHanded t))
+      module _ (a : OP-WIDTH * recordsOf t ≤ length (t .lists .opsBack)) (b : CALL-WIDTH * callsOf t ≤ length (t .lists .callsBack)) where
+        back : (reader t rows ≡ read.Read (length (recordsHanded t) / OP-WIDTH) (length (callsHanded t) / CALL-WIDTH))
+            × (opsAfter (reader t rows) (written t rows) (t .lists .opsBack) ≡ store (t .lists .opsBack) 0 (recordsHanded t))
+            × (callsAfter (reader t rows) (written t rows) (t .lists .callsBack) ≡ store (t .lists .callsBack) 0 (callsHanded t))
         back =
-            by-demand .1 (t .opsBack) (t .callsBack) .reads (omega (arith, records-length t)) (omega (arith, calls-length t))
+            by-demand .1 (t .lists .opsBack) (t .lists .callsBack) .reads (omega (arith, records-length t)) (omega (arith, calls-length t))
 
         pub trip-passed : tripNumbers t ≡ through t
         trip-passed =
-            let n : length (recordsIn t) / OP-WIDTH ≡ recordsOf t = omega (arith, records-length t) in
+            let n : length (recordsHanded t) / OP-WIDTH ≡ recordsOf t = omega (arith, records-length t) in
             let m : length (callsHanded t) / CALL-WIDTH ≡ callsOf t = omega (arith, calls-length t) in
             on-reader (read.Read (recordsOf t) (callsOf t)) (back .0 ∙ rw (n, m))
 
-        pub read-ops : opsAfter (reader t rows) (written t rows) (t .opsBack) ≡ store (t .opsBack) 0 (recordsIn t)
+        pub read-ops : opsAfter (reader t rows) (written t rows) (t .lists .opsBack) ≡ store (t .lists .opsBack) 0 (recordsHanded t)
         read-ops = back .1
 
-        pub read-calls : callsAfter (reader t rows) (written t rows) (t .callsBack) ≡ store (t .callsBack) 0 (callsHanded t)
+        pub read-calls : callsAfter (reader t rows) (written t rows) (t .lists .callsBack) ≡ store (t .lists .callsBack) 0 (callsHanded t)
         read-calls = back .2
 
-  pub trip-short : recordsOf t ≤ 65536 → ShortOf t → tripNumbers t ≡ refusedBy (refused 9 0)
+  pub trip-short : recordsOf t ≤ LIMIT → ShortOf t → tripNumbers t ≡ refusedBy (refused 9 0)
   trip-short few (inl h) = trip-unmade few h
-  trip-short few (inr h) = go (leb (COLUMNS * rowCount (recordsOf t)) (length (t .table))) refl
+  trip-short few (inr h) = go (leb (COLUMNS * rowCount (recordsOf t)) (length (t .lists .table))) refl
     where
-      go : (x : Bool) → leb (COLUMNS * rowCount (recordsOf t)) (length (t .table)) ≡ x → tripNumbers t ≡ refusedBy (refused 9 0)
+      go : (x : Bool) → leb (COLUMNS * rowCount (recordsOf t)) (length (t .lists .table)) ≡ x → tripNumbers t ≡ refusedBy (refused 9 0)
       go true e = trip-unread few (leb-true _ _ e) h
       go false e = trip-unmade few (leb-false _ _ e)
 
   -- the answer by counts is the answer
   abbrev unmade : Bool
-  unmade = ltb (length (t .table)) (COLUMNS * rowCount (recordsOf t))
+  unmade = ltb (length (t .lists .table)) (COLUMNS * rowCount (recordsOf t))
 
   pub decided-is : roundTripNumbers (decidedOf t) ≡ tripNumbers t
   unfolding decided
@@ -200,8 +203,8 @@ module _ (t : Trip) (typed : TypedTrip t) where
       go (over h) = rw (lt-ltb _ _ h) (sym (trip-over h))
       go (short few (inl h)) = rw (le-ltb _ _ few, lt-ltb _ _ h) (sym (trip-short few (inl h)))
       go (short few (inr (inl h))) =
-          rw (le-ltb _ _ few, lt-ltb (length (t .opsBack)) (OP-WIDTH * recordsOf t) h) (either unmade ∙ sym (trip-short few (inr (inl h))))
+          rw (le-ltb _ _ few, lt-ltb (length (t .lists .opsBack)) (OP-WIDTH * recordsOf t) h) (either unmade ∙ sym (trip-short few (inr (inl h))))
       go (short few (inr (inr h))) =
-          rw (le-ltb _ _ few, lt-ltb (length (t .callsBack)) (CALL-WIDTH * callsOf t) h, or-true)
+          rw (le-ltb _ _ few, lt-ltb (length (t .lists .callsBack)) (CALL-WIDTH * callsOf t) h, or-true)
           (either unmade ∙ sym (trip-short few (inr (inr h))))
       go (passed few room a b) = rw (le-ltb _ _ few, le-ltb _ _ room, le-ltb _ _ a, le-ltb _ _ b) (sym (trip-passed few room a b))

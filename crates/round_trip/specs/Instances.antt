@@ -5,7 +5,7 @@ use mathlib.Core.List.{List, [], _∷_}
 use Prim.Native.Nat.{ℕ}
 use lib.ListN.{replicate}
 use Rattle.answer.specs.Numbers.{accepted, refused}
-use Rattle.round_trip.specs.Trip.{Trip, tripOf, refusedBy, tripNumbers, callsBackAfter}
+use Rattle.round_trip.specs.Trip.{Trip, tripLent, tripOf, refusedBy, tripNumbers, tripAfter}
 use Rattle.round_trip.specs.RoundTrip.{TypedTrip}
 
 -- a Copy of nine bytes, a call of no kind, a Set whose dst is not a gap above its src, an empty Write, and two numbers left over
@@ -15,18 +15,19 @@ fourCalls = 0 ∷ 4 ∷ 0 ∷ 16 ∷ 9 ∷ 7 ∷ 5 ∷ 0 ∷ 8 ∷ 1 ∷ 1 ∷ 5
 -- over a window of 32 cells, with room for so many numbers of records, in the table, and in the two buffers of read-back; the gap is 8
 abbrev pub tripWith : ℕ → ℕ → ℕ → ℕ → Trip
 tripWith ops table opsBack callsBack =
-    tripOf 8 fourCalls (replicate 32 3) (replicate 32 0) (replicate ops 7) (replicate 116 7) (replicate table 7) (replicate opsBack 7)
-    (replicate callsBack 7)
+    tripOf 8 fourCalls
+    (tripLent (replicate 32 3) (replicate 32 0) (replicate ops 7) (replicate 116 7) (replicate table 7) (replicate opsBack 7)
+    (replicate callsBack 7))
 
 pub record Instances : Type 0 where
   pub typed : TypedTrip (tripWith 49 165 49 11)
   -- two calls are accepted, of three records in four rows, and these two come back
   pub through : tripNumbers (tripWith 49 165 49 11) ≡ record { answer = accepted 3; rows = 4; calls = 2 }
-  pub calls : callsBackAfter (tripWith 49 165 49 11) ≡ 0 ∷ 4 ∷ 0 ∷ 16 ∷ 9 ∷ 2 ∷ 6 ∷ 5 ∷ 40 ∷ 0 ∷ 7 ∷ []
+  pub calls : tripAfter (tripWith 49 165 49 11) .callsBack ≡ 0 ∷ 4 ∷ 0 ∷ 16 ∷ 9 ∷ 2 ∷ 6 ∷ 5 ∷ 40 ∷ 0 ∷ 7 ∷ []
   -- with room for two records the Write is refused (9) too, and passed over
   pub fewer : tripNumbers (tripWith 47 164 32 5) ≡ record { answer = accepted 2; rows = 4; calls = 1 }
   -- no call at all
-  pub none : tripNumbers (tripOf 8 [] [] [] [] [] (replicate 164 7) [] []) ≡ record { answer = accepted 0; rows = 4; calls = 0 }
+  pub none : tripNumbers (tripOf 8 [] (tripLent [] [] [] [] (replicate 164 7) [] [])) ≡ record { answer = accepted 0; rows = 4; calls = 0 }
   -- a table, or a buffer of read-back, one number short
   pub table-short : tripNumbers (tripWith 48 163 48 10) ≡ refusedBy (refused 9 0)
   pub ops-short : tripNumbers (tripWith 48 164 47 10) ≡ refusedBy (refused 9 0)

@@ -3,28 +3,28 @@
 use mathlib.Core.Path.{_≡_}
 use mathlib.Core.Logic.{_⊎_, _↔_}
 use Prim.Native.Nat.{ℕ, _*_, _/_, _^_, _≤_, _<_}
-use lib.ListN.{length, getD}
+use lib.ListN.{length}
 use Rattle.lists.specs.Lists.{store}
+use Rattle.records.specs.Records.{LIMIT}
 use Rattle.records.specs.RowCount.{rowCount}
 use Rattle.call.specs.Ops.{OP-WIDTH}
 use Rattle.call.specs.Flat.{CALL-WIDTH}
-use Rattle.expansion_cut.specs.Pieces.{Bytes}
+use Rattle.expansion_rows.specs.Inside.{Bytes}
 use Rattle.copy_row.specs.Columns.{COLUMNS}
 use Rattle.demand.specs.Demand.{Passes}
-use Rattle.round_trip.specs.Trip.{Trip, recordsIn, callsHanded, written, tripNumbers, opsBackAfter, callsBackAfter}
+use Rattle.round_trip.specs.Trip.{Trip, recordsHanded, callsHanded, written, tripNumbers, tripAfter}
 
 -- what the types of the code say
 pub record TypedTrip (t : Trip) : Type 0 where
   pub gap : t .gap < 2 ^ 32
-  pub calls : (i : ℕ) → getD (t .calls) i 0 < 2 ^ 64
-  pub bytes : Bytes (t .slices .bytes)
+  pub bytes : Bytes (t .lists .slices .bytes)
 
 -- document 01's number of the answer, how many records go in, and how many rows their table has
 abbrev pub numberOf : Trip → ℕ
 numberOf t = tripNumbers t .answer .number
 
 abbrev pub recordsCount : Trip → ℕ
-recordsCount t = length (recordsIn t) / OP-WIDTH
+recordsCount t = length (recordsHanded t) / OP-WIDTH
 
 abbrev pub rowsCount : Trip → ℕ
 rowsCount t = rowCount (recordsCount t)
@@ -32,9 +32,9 @@ rowsCount t = rowCount (recordsCount t)
 -- whether a buffer is shorter than what goes into it: the table, or one of read-back's
 abbrev pub Short : Trip → Type 0
 Short t =
-    (length (t .table) < COLUMNS * rowsCount t)
-    ⊎ (length (t .opsBack) < length (recordsIn t))
-    ⊎ (length (t .callsBack) < length (callsHanded t))
+    (length (t .lists .table) < COLUMNS * rowsCount t)
+    ⊎ (length (t .lists .opsBack) < length (recordsHanded t))
+    ⊎ (length (t .lists .callsBack) < length (callsHanded t))
 
 -- where nothing is refused
 pub record CameBack (t : Trip) : Type 0 where
@@ -45,15 +45,15 @@ pub record CameBack (t : Trip) : Type 0 where
   -- the verdict on the rows written is a pass
   pub passes : Passes (t .gap) (written t (tripNumbers t .rows))
   -- and what comes back is what went in; numbers past it keep their values
-  pub ops-back : opsBackAfter t ≡ store (t .opsBack) 0 (recordsIn t)
-  pub calls-back : callsBackAfter t ≡ store (t .callsBack) 0 (callsHanded t)
+  pub ops-back : tripAfter t .opsBack ≡ store (t .lists .opsBack) 0 (recordsHanded t)
+  pub calls-back : tripAfter t .callsBack ≡ store (t .lists .callsBack) 0 (callsHanded t)
 
 pub record RoundTrip : Type 0 where
   -- the refusals are the maker's 8 and 9 and read-back's 9, and nothing else
   pub answers : (t : Trip) → TypedTrip t → (numberOf t ≡ 0) ⊎ (numberOf t ≡ 8) ⊎ (numberOf t ≡ 9)
   -- 8 exactly if there are above 65,536 records
-  pub eight : (t : Trip) → TypedTrip t → (numberOf t ≡ 8) ↔ (65536 < recordsCount t)
+  pub eight : (t : Trip) → TypedTrip t → (numberOf t ≡ 8) ↔ (LIMIT < recordsCount t)
   -- 9 exactly if there are not, and a buffer is short
-  pub nine : (t : Trip) → TypedTrip t → (numberOf t ≡ 9) ↔ ((recordsCount t ≤ 65536) × Short t)
+  pub nine : (t : Trip) → TypedTrip t → (numberOf t ≡ 9) ↔ ((recordsCount t ≤ LIMIT) × Short t)
   -- otherwise what went in comes back
   pub back : (t : Trip) → TypedTrip t → numberOf t ≡ 0 → CameBack t

@@ -1,6 +1,7 @@
 -- The whole way: calls are expanded in turn over one window, their operation records become a table, and the rows written are checked and
 -- read back. All of it is put together from the definitions that the contracts of the expansion, the maker and read-back cite. Refused
 -- calls are passed over, the maker's and read-back's refusals are passed up unchanged, and a refusal writes nothing. Assumes nothing.
+use mathlib.Core.Path.{_≡_}
 use mathlib.Core.Bool.{cond}
 use mathlib.Core.List.{List}
 use Prim.Native.Nat.{ℕ, _*_}
@@ -8,52 +9,63 @@ use lib.Dec.{eqb}
 use lib.ListN.{length, take}
 use Rattle.answer.specs.Numbers as numbers
 use Rattle.answer.specs.declared.Answer.{Answer}
+use Rattle.records.specs.Records.{LIMIT}
 use Rattle.records.specs.Table.{tableNumbers}
 use Rattle.records.specs.declared.TableAnswer.{TableAnswer}
 use Rattle.records.specs.declared.TableAnswer.the-variants as table
-use Rattle.expansion.specs.Expansion.{Lent, lent}
+use Rattle.expansion.specs.Tries.{Setting, under, Lent, lent, Try}
 use Rattle.copy_row.specs.Columns.{COLUMNS}
 use Rattle.copy_row.specs.Trace.{copyAnswer, copyAfter}
 use Rattle.read_back.specs.ReadBack.{readBackAnswer, readBackNumbers, opsAfter, callsAfter}
 use Rattle.read_back.specs.declared.ReadBackAnswer.{ReadBackAnswer}
-use Rattle.demand.specs.Demand.{Try, acceptedOps, acceptedCalls}
-use Rattle.call_list.specs.CallList.{callsIn, triesOf, allExpanded}
+use Rattle.calls_in_turn.specs.Accepted.{acceptedOps, acceptedCalls}
+use Rattle.calls_in_turn.specs.InTurn.{callsIn, triesOf, allExpanded}
 use Rattle.round_trip.specs.declared.RoundTripAnswer.{RoundTripAnswer}
 use Rattle.round_trip.specs.declared.RoundTripAnswer.the-variants.{Passed, TooManyRecords, BufferShort}
 
--- what is handed in and lent: the gap, the calls' numbers, the expansion's four slices, the table, and read-back's two buffers
-pub record Trip : Type 0 where
-  pub gap : ℕ
-  pub calls : List ℕ
+-- what is lent: the expansion's four slices, the table, and read-back's two buffers
+pub record TripLent : Type 0 where
   pub slices : Lent
   pub table : List ℕ
   pub opsBack : List ℕ
   pub callsBack : List ℕ
 
-abbrev pub tripOf : ℕ → List ℕ → List ℕ → List ℕ → List ℕ → List ℕ → List ℕ → List ℕ → List ℕ → Trip
-tripOf gap calls bytes stamps ops accesses table opsBack callsBack =
-    record { gap = gap; calls = calls; slices = lent bytes stamps ops accesses; table = table; opsBack = opsBack; callsBack = callsBack }
+abbrev pub tripLent : List ℕ → List ℕ → List ℕ → List ℕ → List ℕ → List ℕ → List ℕ → TripLent
+tripLent bytes stamps ops accesses table opsBack callsBack =
+    record { slices = lent bytes stamps ops accesses; table = table; opsBack = opsBack; callsBack = callsBack }
+
+-- what is handed in: the gap and the calls' numbers, with what is lent
+pub record Trip : Type 0 where
+  pub gap : ℕ
+  pub calls : List ℕ
+  pub lists : TripLent
+
+abbrev pub tripOf : ℕ → List ℕ → TripLent → Trip
+tripOf gap calls lists = record { gap = gap; calls = calls; lists = lists }
 
 -- What goes in
 
+abbrev pub settingOf : Trip → Setting
+settingOf t = under (t .gap)
+
 -- the calls as they go to the expansion, one by one
 abbrev pub tries : Trip → List Try
-tries t = triesOf (t .gap) (callsIn (t .calls)) (t .slices)
+tries t = triesOf (settingOf t) (callsIn (t .calls)) (t .lists .slices)
 
 -- the accepted ones' operation records, joined, and their five numbers each
-abbrev pub recordsIn : Trip → List ℕ
-recordsIn t = acceptedOps (t .gap) (tries t)
+abbrev pub recordsHanded : Trip → List ℕ
+recordsHanded t = acceptedOps (settingOf t) (tries t)
 
 abbrev pub callsHanded : Trip → List ℕ
-callsHanded t = acceptedCalls (t .gap) (tries t)
+callsHanded t = acceptedCalls (settingOf t) (tries t)
 
 -- The table, and what is read back of it
 
 abbrev pub maker : Trip → TableAnswer
-maker t = copyAnswer 65536 (recordsIn t) (length (t .table))
+maker t = copyAnswer LIMIT (recordsHanded t) (length (t .lists .table))
 
 abbrev pub tableMade : Trip → ℕ → List ℕ
-tableMade t rows = copyAfter (recordsIn t) (table.Made rows) (t .table)
+tableMade t rows = copyAfter (recordsHanded t) (table.Made rows) (t .lists .table)
 
 -- the rows written, and not the rest of the table
 abbrev pub written : Trip → ℕ → List ℕ
@@ -61,7 +73,7 @@ written t rows = take (COLUMNS * rows) (tableMade t rows)
 
 -- read-back runs the chain check on them first
 abbrev pub reader : Trip → ℕ → ReadBackAnswer
-reader t rows = readBackAnswer (t .gap) (written t rows) (length (t .opsBack)) (length (t .callsBack))
+reader t rows = readBackAnswer (t .gap) (written t rows) (length (t .lists .opsBack)) (length (t .lists .callsBack))
 
 -- The answer
 
@@ -100,20 +112,21 @@ roundTripNumbers BufferShort = refusedBy (numbers.refused 9 0)
 
 -- What is lent, afterwards
 
+-- the way itself, the table having this many rows
+unfoldable pub tripRun : Trip → ℕ → TripLent
+tripRun t rows =
+    record {
+      slices = allExpanded (settingOf t) (callsIn (t .calls)) (t .lists .slices);
+      table = tableMade t rows;
+      opsBack = opsAfter (reader t rows) (written t rows) (t .lists .opsBack);
+      callsBack = callsAfter (reader t rows) (written t rows) (t .lists .callsBack);
+    }
+
 -- a refusal writes nothing
-abbrev pub ifPassed : {A : Type 0} → Trip → A → A → A
-ifPassed t changed kept = cond (eqb (tripNumbers t .answer .number) 0) changed kept
+unfoldable pub tripAfter : Trip → TripLent
+tripAfter t = cond (eqb (tripNumbers t .answer .number) 0) (tripRun t (tripNumbers t .rows)) (t .lists)
 
--- the window, the records and the accesses
-unfoldable pub slicesAfter : Trip → Lent
-slicesAfter t = ifPassed t (allExpanded (t .gap) (callsIn (t .calls)) (t .slices)) (t .slices)
-
-unfoldable pub tableAfter : Trip → List ℕ
-tableAfter t = ifPassed t (tableMade t (tripNumbers t .rows)) (t .table)
-
--- the buffers of read-back
-unfoldable pub opsBackAfter : Trip → List ℕ
-opsBackAfter t = let rows = tripNumbers t .rows in ifPassed t (opsAfter (reader t rows) (written t rows) (t .opsBack)) (t .opsBack)
-
-unfoldable pub callsBackAfter : Trip → List ℕ
-callsBackAfter t = let rows = tripNumbers t .rows in ifPassed t (callsAfter (reader t rows) (written t rows) (t .callsBack)) (t .callsBack)
+-- what `round_trip` has to show: its answer, and what is lent when it is done
+pub record Ended (t : Trip) (numbers : RoundTripNumbers) (after : TripLent) : Type 0 where
+  pub answer : numbers ≡ tripNumbers t
+  pub lists : after ≡ tripAfter t

@@ -2,17 +2,17 @@
 // but what each `requires` says.
 ghost use mathlib.Core.Path.{_≡_};
 ghost use Prim.Native.Nat.{_*_, _^_, _<_};
-ghost use lib.ListN.{length};
-ghost use Rattle.records.specs.declared.TableAnswer.the-variants.{Made};
-ghost use Rattle.call.specs.Ops.{OP-WIDTH};
 ghost use Rattle.call.specs.Flat.{CALL-WIDTH};
-ghost use Rattle.expansion.specs.Expansion.{lent};
-ghost use Rattle.round_trip.specs.Trip.{tripOf, recordsIn, maker};
-ghost use Rattle.round_trip.specs.Legs.{decided, Ran};
+ghost use Rattle.round_trip.specs.Trip.{tripLent, tripOf, tripRun};
+ghost use Rattle.round_trip.specs.Legs.{decided, Tabled};
 use crate::RoundTripAnswer;
-use call_list::turns::expand_all;
+use call::CALL_WIDTH;
+use call::OP_WIDTH;
+use calls_in_turn::turns::expand_all;
+use copy_row::cols::NUM_COLUMNS;
 use copy_row::generate_copy_trace;
 use read_back::read_back;
+use records::LIMIT;
 use records::tables::row_count;
 
 // The answer for `n` records and `m` calls: 8 and 9 of the maker, and 9 of read-back.
@@ -26,14 +26,14 @@ pub fn decide(
     requires { ⌜ CALL-WIDTH * m < 2 ^ 64 ⌝ }
     ensures { λ r. ⌜ r ≡ decided n m «table_room» «ops_room» «calls_room» ⌝ }
 {
-    if 65536 < n {
+    if LIMIT < n {
         return RoundTripAnswer::TooManyRecords;
     }
     let rows = row_count(n as u64) as usize;
-    if table_room < 41 * rows {
+    if table_room < NUM_COLUMNS * rows {
         return RoundTripAnswer::BufferShort;
     }
-    if (ops_room < 16 * n) | (calls_room < 5 * m) {
+    if (ops_room < OP_WIDTH * n) | (calls_room < CALL_WIDTH * m) {
         return RoundTripAnswer::BufferShort;
     }
     RoundTripAnswer::Passed {
@@ -58,10 +58,11 @@ pub fn run(
     ops_back: &mut [u64],
     calls_back: &mut [u64],
 )
-    requires { ⌜ (maker (tripOf gap (now calls) (now bytes) (now stamps) (now ops) (now accesses) (now table) (now «ops_back») (now «calls_back»)) ≡ Made rows) × (length (recordsIn (tripOf gap (now calls) (now bytes) (now stamps) (now ops) (now accesses) (now table) (now «ops_back») (now «calls_back»))) ≡ OP-WIDTH * n) ⌝ }
-    ensures { λ _. ⌜ Ran (tripOf gap (now (calls .entry)) (now (bytes .entry)) (now (stamps .entry)) (now (ops .entry)) (now (accesses .entry)) (now (table .entry)) (now («ops_back» .entry)) (now («calls_back» .entry))) rows (lent (now (bytes .exit)) (now (stamps .exit)) (now (ops .exit)) (now (accesses .exit))) (now (table .exit)) (now («ops_back» .exit)) (now («calls_back» .exit)) ⌝ }
+    requires { ⌜ Tabled (tripOf gap (now calls) (tripLent (now bytes) (now stamps) (now ops) (now accesses) (now table) (now «ops_back») (now «calls_back»))) n rows ⌝ }
+    ensures { λ _. ⌜ tripLent (now (bytes .exit)) (now (stamps .exit)) (now (ops .exit)) (now (accesses .exit)) (now (table .exit)) (now («ops_back» .exit)) (now («calls_back» .exit))
+        ≡ tripRun (tripOf gap (now (calls .entry)) (tripLent (now (bytes .entry)) (now (stamps .entry)) (now (ops .entry)) (now (accesses .entry)) (now (table .entry)) (now («ops_back» .entry)) (now («calls_back» .entry)))) rows ⌝ }
 {
     expand_all(gap, calls, bytes, stamps, ops, accesses);
-    generate_copy_trace(&ops[0..16 * n], table);
-    read_back(gap, &table[0..41 * rows], ops_back, calls_back);
+    generate_copy_trace(&ops[0..OP_WIDTH * n], table);
+    read_back(gap, &table[0..NUM_COLUMNS * rows], ops_back, calls_back);
 }

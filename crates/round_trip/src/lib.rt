@@ -4,11 +4,10 @@ pub mod legs;
 
 ghost use mathlib.Core.Path.{_≡_};
 ghost use mathlib.Core.Bool.{true};
-ghost use Rattle.expansion.specs.Expansion.{lent};
-ghost use Rattle.round_trip.specs.Trip.{tripOf, tripNumbers, roundTripNumbers, slicesAfter, tableAfter, opsBackAfter, callsBackAfter};
+ghost use Rattle.round_trip.specs.Trip.{tripLent, tripOf, roundTripNumbers, Ended};
 ghost use Rattle.round_trip.specs.RoundTrip.{RoundTrip};
 ghost use Rattle.round_trip.specs.Instances.{Instances};
-use call_list::ahead::count;
+use calls_in_turn::ahead::count;
 
 pub enum RoundTripAnswer {
     // nothing is refused: how many rows the table has, and how many operation records and calls came back
@@ -37,11 +36,9 @@ pub fn round_trip(
     ops_back: &mut [u64],
     calls_back: &mut [u64],
 ) -> RoundTripAnswer
-    ensures answer { λ r. ⌜ roundTripNumbers r ≡ tripNumbers (tripOf gap (now (calls .entry)) (now (bytes .entry)) (now (stamps .entry)) (now (ops .entry)) (now (accesses .entry)) (now (table .entry)) (now («ops_back» .entry)) (now («calls_back» .entry))) ⌝ }
-    ensures slices { λ _. ⌜ lent (now (bytes .exit)) (now (stamps .exit)) (now (ops .exit)) (now (accesses .exit)) ≡ slicesAfter (tripOf gap (now (calls .entry)) (now (bytes .entry)) (now (stamps .entry)) (now (ops .entry)) (now (accesses .entry)) (now (table .entry)) (now («ops_back» .entry)) (now («calls_back» .entry))) ⌝ }
-    ensures table { λ _. ⌜ now (table .exit) ≡ tableAfter (tripOf gap (now (calls .entry)) (now (bytes .entry)) (now (stamps .entry)) (now (ops .entry)) (now (accesses .entry)) (now (table .entry)) (now («ops_back» .entry)) (now («calls_back» .entry))) ⌝ }
-    ensures ops_back { λ _. ⌜ now («ops_back» .exit) ≡ opsBackAfter (tripOf gap (now (calls .entry)) (now (bytes .entry)) (now (stamps .entry)) (now (ops .entry)) (now (accesses .entry)) (now (table .entry)) (now («ops_back» .entry)) (now («calls_back» .entry))) ⌝ }
-    ensures calls_back { λ _. ⌜ now («calls_back» .exit) ≡ callsBackAfter (tripOf gap (now (calls .entry)) (now (bytes .entry)) (now (stamps .entry)) (now (ops .entry)) (now (accesses .entry)) (now (table .entry)) (now («ops_back» .entry)) (now («calls_back» .entry))) ⌝ }
+    ensures { λ r. ⌜ Ended (tripOf gap (now (calls .entry)) (tripLent (now (bytes .entry)) (now (stamps .entry)) (now (ops .entry)) (now (accesses .entry)) (now (table .entry)) (now («ops_back» .entry)) (now («calls_back» .entry))))
+        (roundTripNumbers r)
+        (tripLent (now (bytes .exit)) (now (stamps .exit)) (now (ops .exit)) (now (accesses .exit)) (now (table .exit)) (now («ops_back» .exit)) (now («calls_back» .exit))) ⌝ }
 {
     let wide = gap as u64;
     let found = count(

@@ -5,6 +5,7 @@ use mathlib.Core.List.{List}
 use native.Mathlib.Omega.{arith}
 use native.Mathlib.Nat.{zero-add}
 use borrow.Author.Needs.{needs}
+use Rattle.expansion.specs.Tries.{under}
 use Rattle.line_text.specs.Lines.{gapOf, lines}
 use Rattle.line_text.specs.declared.Parsed.{Parsed}
 use Rattle.row_text.proofs.Wrote.{wrote}
@@ -43,7 +44,7 @@ call-lines c =
     let at-gap = at-value .before .before in
     let gap = at-value .first .given in
     written (wrote (line .0 .0 ∙ sym (zero-add _)) (line .1))
-    (ap (λ (l : List ℕ). endingText (gap .0 .0) (linesFrom (gap .0 .0) 2 (lines l) start)) (c .before .tail .ensures)
+    (ap (λ (l : List ℕ). endingText (gap .0 .0) (linesFrom (under (gap .0 .0)) 2 (lines l) start)) (c .before .tail .ensures)
     ∙ good-gap _ _ (read-gap (at-gap .before .head .ensures) (at-gap .parse-gap .ensures) (gap .1)) (c .before .before .before .if1 .left))
     (omega arith)
 

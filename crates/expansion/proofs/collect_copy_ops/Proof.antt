@@ -1,24 +1,35 @@
--- `expansion::collect_copy_ops` meets its contract: the limit is 65,536, and the kind is a number. Assumes nothing.
+-- `expansion::collect_copy_ops` meets its contract: the limit is document 01's, and the kind is a number. Assumes nothing.
 use borrow.Author.Needs.{needs}
 use mathlib.Core.Path.{ap, _∙_}
 use Prim.Native.Nat.{ℕ}
 use denote.Ref.{now}
-use Rattle.call.specs.Calls.{Call}
-use Rattle.expansion.specs.Refusals.{expansionNumbers}
-use Rattle.expansion.specs.Expansion.{lent, answerFor, lentAfter}
+use Rattle.expansion.specs.Tries.{under, lent, Try, tryOf}
+use Rattle.expansion.specs.Refusals.{answered, withAccesses}
+use Rattle.expansion.specs.Expansion.{lentAfter}
 use Rattle.expansion.proofs.collect_copy_ops.Statement.{statement}
 use Rattle.expansion.proofs.collect_copy_ops.Tie as tie
 
+-- places: the call of `expand` seen from the end, and the kind's number seen from that call
+abbrev expanded-of : tie.After-slice-known8 → tie.After-expand
+expanded-of c = let ops-back = c .before .before .before in let bytes-known = ops-back .before .before .before in bytes-known .before .before
+
+abbrev kind-of : tie.After-expand → tie.After-kind-number
+kind-of c = let lent-second = c .before .before .before in lent-second .before .before
+
 returns : tie.Need-returns
 returns c =
-    let a = (c .before .before .before .before .before .before .before .before .before .before .before .before .before .before .before .before .before .before .args) in
+    let expanded = expanded-of c in
+    let kind = kind-of expanded in
+    let known = kind .before .before .before in
+    let a = known .before .before .args in
     let l = lent (now (a .bytes)) (now (a .stamps)) (now (a .ops)) (now (a .accesses)) in
-    let call : ℕ → Call = λ k. record { kind = k; stamp = a .timestamp; src = a .src; dst = a .dst; count = a .count } in
-    let kind = (c .before .before .before .before .before .before .before .before .before .before .before .before .before .kind-number) .ensures in
-    let e = (c .before .before .before .before .before .before .before .before .expand) .ensures in (
-      ap expansionNumbers (e .0) ∙ ap (λ (k : ℕ). expansionNumbers (answerFor 65536 (a .gap) (call k) l)) kind,
-      e .1 ∙ ap (λ (k : ℕ). lentAfter 65536 (a .gap) (call k) l) kind,
-    )
+    let try : ℕ → Try = λ k. tryOf (record { kind = k; stamp = a .timestamp; src = a .src; dst = a .dst; count = a .count }) l in
+    let same = kind .kind-number .ensures in
+    let done = expanded .expand .ensures in
+    record {
+      answer = done .answer ∙ ap (λ (k : ℕ). withAccesses (try k .call) (answered (under (a .gap)) (try k))) same;
+      slices = done .slices ∙ ap (λ (k : ℕ). lentAfter (under (a .gap)) (try k)) same;
+    }
 
 pub collect-copy-ops-spec : {M : Type 1} → statement M
 collect-copy-ops-spec =

@@ -1,66 +1,62 @@
 -- `expansion_numbers::collect_copy_ops` meets its contract: each way out is a case of the definition. Assumes nothing.
-use mathlib.Core.Path.{sym, ap, _∙_}
-use mathlib.Core.List.{[], _∷_}
+use mathlib.Core.Path.{_≡_, ap, subst, _∙_}
+use Prim.Native.Nat.{ℕ}
 use denote.Ref.{now}
 use borrow.Author.Needs.{needs}
-use Rattle.answer.proofs.Parts.{number-same, value-same}
-use Rattle.expansion.specs.Refusals.{ExpansionNumbers}
-use Rattle.expansion.specs.Expansion.{lent}
-use Rattle.expansion_numbers.specs.ExpansionNumbers.{flatNumbers}
-use Rattle.expansion_numbers.proofs.Cases.{ten, ten-slices, ten-counts, numbers, slices, counts-kept, counts-written}
+use Rattle.call.specs.Calls.{kindNumber}
+use Rattle.call.proofs.GoodCalls.{kind-back}
+use Rattle.expansion.specs.Tries.{under, Lent, lent, Try, tryOf}
+use Rattle.expansion.specs.Refusals.{ExpansionNumbers, expansionNumbers}
+use Rattle.expansion.specs.Expansion.{Done}
+use Rattle.expansion_numbers.proofs.Cases.{ten, refused-flat, taken-flat}
 use Rattle.expansion_numbers.proofs.collect_copy_ops.Statement.{statement}
 use Rattle.expansion_numbers.proofs.collect_copy_ops.Tie as tie
 
-returns : tie.Need-returns
-returns c =
-    let a = c .before .before .before .before .before .before .args in
-    let l = lent (now (a .bytes)) (now (a .stamps)) (now (a .ops)) (now (a .accesses)) in (
-      c .refuse .ensures ∙ ap (λ (n : ExpansionNumbers). n .answer) (ten (a .kind) (a .timestamp) (a .src) (a .dst) (a .count) (a .gap) l (c .before .if1 .taken)),
-      (ten-slices (a .kind) (a .timestamp) (a .src) (a .dst) (a .count) (a .gap) l (c .before .if1 .taken), ten-counts (a .kind) (a .timestamp) (a .src) (a .dst) (a .count) (a .gap) l (now (a .counts)) (c .before .if1 .taken)),
-    )
+-- Places: the entry, the call before the expansion, and after it
 
-returns-2 : tie.Need-returns-2
-returns-2 c =
-    let a = c .before .before .before .before .before .before .before .before .before .before .before .before .before .before .before .before .before .before .before .before .before .before .args in
-    let l = lent (now (a .bytes)) (now (a .stamps)) (now (a .ops)) (now (a .accesses)) in
-    let found = c .before .before .before .before .before .before .before .before .before .before .before .collect-copy-ops .ensures in
-    let kind = c .before .before .before .before .before .before .before .before .before .before .before .before .before .before .before .before .kind-of .ensures in
-    let small = c .before .before .before .before .before .before .before .before .before .before .before .before .before .before .before .before .before .if1 .left in
-    let all = found .0 ∙ numbers (a .kind) (a .timestamp) (a .src) (a .dst) (a .count) (a .gap) l _ kind small in
-    let same = c .before .before .numbers .ensures ∙ ap (λ (n : ExpansionNumbers). n .answer) all in (
-      same,
-      (
-        found .1 ∙ slices (a .kind) (a .timestamp) (a .src) (a .dst) (a .count) (a .gap) l _ kind small,
-        counts-kept (flatNumbers (a .kind) (a .timestamp) (a .src) (a .dst) (a .count) (a .gap) l) (now (a .counts)) (λ z. c .if2 .taken (number-same same ∙ z)),
-      ),
-    )
+abbrev start-of : tie.After-slice-known4 → tie.Start
+start-of c = c .before .before .before .before
 
-returns-3 : tie.Need-returns-3
-returns-3 c =
-    let told = c .before .before in
-    let a = c .before .before .before .before .before .before .before .before .before .before .before .before .before .before .before .before .before .before .before .before .before .before .before .before .args in
-    let l = lent (now (a .bytes)) (now (a .stamps)) (now (a .ops)) (now (a .accesses)) in
-    let found = told .before .before .before .before .before .before .before .before .before .before .before .collect-copy-ops .ensures in
-    let kind = told .before .before .before .before .before .before .before .before .before .before .before .before .before .before .before .before .kind-of .ensures in
-    let small = told .before .before .before .before .before .before .before .before .before .before .before .before .before .before .before .before .before .if1 .left in
-    let all = found .0 ∙ numbers (a .kind) (a .timestamp) (a .src) (a .dst) (a .count) (a .gap) l _ kind small in
-    let same = told .before .before .numbers .ensures ∙ ap (λ (n : ExpansionNumbers). n .answer) all in
-    let value = value-same same in
-    let count = c .before .access-count .ensures ∙ ap (λ (n : ExpansionNumbers). n .accesses) all in (
-      same,
-      (
-        found .1 ∙ slices (a .kind) (a .timestamp) (a .src) (a .dst) (a .count) (a .gap) l _ kind small,
-        (λ i. value i ∷ count i ∷ [])
-            ∙ counts-written (flatNumbers (a .kind) (a .timestamp) (a .src) (a .dst) (a .count) (a .gap) l) (now (a .counts)) (sym (number-same same) ∙ told .if2 .left),
-      ),
-    )
+abbrev called-of : tie.After-collect-copy-ops → tie.After-kind-of
+called-of c = let half = c .before .before .before in half .before .before
+
+abbrev back-of : tie.After-numbers → tie.After-collect-copy-ops
+back-of c = let ops = c .before .before .before in let stamps = ops .before .before .before in stamps .before .before .before
+
+-- the lent slices at the entry, and the try with a kind k
+abbrev slices-in : tie.Start → Lent
+slices-in c = lent (now (c .args .bytes)) (now (c .args .stamps)) (now (c .args .ops)) (now (c .args .accesses))
+
+abbrev with-kind : tie.Start → ℕ → Try
+with-kind c k = let a = c .args in tryOf (record { kind = k; stamp = a .timestamp; src = a .src; dst = a .dst; count = a .count }) (slices-in c)
+
+abbrev handed : tie.Start → Try
+handed c = with-kind c (c .args .kind)
+
+module _ (c : tie.After-numbers) where
+  abbrev called : tie.After-kind-of
+  called = called-of (back-of c)
+
+  abbrev entry : tie.Start
+  entry = start-of (called .before .before)
+
+  abbrev found : ExpansionNumbers
+  found = expansionNumbers (back-of c .collect-copy-ops .result)
+
+  -- the kind that was handed on has the number that came in
+  back : kindNumber (called .kind-of .result) ≡ entry .args .kind
+  back = ap kindNumber (called .kind-of .ensures) ∙ kind-back (entry .args .kind) (called .before .if1 .left)
+
+  done-as : (after : Lent) → Done (under (entry .args .gap)) (with-kind entry (kindNumber (called .kind-of .result))) found after
+      → Done (under (entry .args .gap)) (handed entry) found after
+  done-as after = subst (λ (k : ℕ). Done (under (entry .args .gap)) (with-kind entry k) found after) back
 
 pub collect-copy-ops-spec : {M : Type 1} → statement M
 collect-copy-ops-spec =
     tie.close
     (tie.spec
     (λ c κs. search needs)
-    returns
+    (λ c. let e = start-of (c .before .before) in ten (e .args .gap) (handed e) (now (e .args .counts)) (c .before .if1 .taken) _ (c .refuse .ensures))
     (λ c κs. search needs)
     (λ c κs. search needs)
     (λ c κs. search needs)
@@ -68,10 +64,19 @@ collect-copy-ops-spec =
     (λ c. search needs)
     (λ c. search needs)
     (λ c. search needs)
-    returns-2
+    (λ c.
+    let n = c .before .before in let e = entry n in
+    let done = done-as n _ (back-of n .collect-copy-ops .ensures) in
+    let small = called n .before .if1 .left in
+    refused-flat (e .args .gap) (handed e) (now (e .args .counts)) small (found n) _ done _ (n .numbers .ensures) (c .if2 .taken))
     (λ c κs. search needs)
     (λ c. search needs)
     (λ c. search needs)
     (λ c. search needs)
     (λ c. search needs)
-    returns-3)
+    (λ c.
+    let told = c .before .before in let n = told .before .before in let e = entry n in
+    let done = done-as n _ (back-of n .collect-copy-ops .ensures) in
+    let small = called n .before .if1 .left in
+    taken-flat (e .args .gap) (handed e) (now (e .args .counts)) small (found n) _ done _ (n .numbers .ensures) (told .if2 .left)
+    _ (c .before .access-count .ensures)))

@@ -6,7 +6,7 @@ use native.Mathlib.Omega.{arith}
 use borrow.Author.Needs.{needs}
 use denote.Ref.{now}
 use lib.ListN.{length}
-use Rattle.round_trip.specs.Trip.{Trip, tripOf}
+use Rattle.round_trip.specs.Trip.{Trip, tripLent, tripOf}
 use Rattle.round_trip.specs.Legs.{decided}
 use Rattle.round_trip.specs.RoundTrip.{TypedTrip}
 use Rattle.round_trip.proofs.Whole.{decidedOf}
@@ -14,52 +14,63 @@ use Rattle.round_trip.proofs.Ends.{may-run, ended-through, ended-refuse
 use Rattle.round_trip.proofs.round_trip.Statement.{statement}
 use Rattle.round_trip.proofs.round_trip.Tie as tie
 
--- the place behind what is known of the first two slices
-abbrev started : tie.After-decide → tie.After-slice-known
-started c = c .before .before .before .before .before .before .before .before
+-- places: what is known of the slices seen from the answer, the answer seen from the call of `run`, that call seen from the end
+abbrev known-of : tie.After-decide → tie.After-slice-known
+known-of c =
+    let known6-at = c .before .before .before in
+    let known3-at = known6-at .before .before .before in
+    known3-at .before .before
 
-abbrev trip-at : tie.After-slice-known → Trip
-trip-at c =
+abbrev told-of : tie.After-run-arg7 → tie.After-answer
+told-of c =
+    let arg4-at = c .before .before .before in
+    let arg-at = arg4-at .before .before .before in
+    arg-at .before .before
+
+abbrev ran-of : tie.After-slice-known14 → tie.After-run
+ran-of c =
+    let ops-back-at = c .before .before .before in
+    let known11-at = ops-back-at .before .before .before in
+    let ops-at = known11-at .before .before .before in
+    let known8-at = ops-at .before .before .before in
+    known8-at .before .before
+
+abbrev trip-of : tie.After-slice-known → Trip
+trip-of c =
     let a = c .before .before .args in
-    tripOf (a .gap) (now (a .calls)) (now (a .bytes)) (now (a .stamps)) (now (a .ops)) (now (a .accesses))
-    (now (a .table)) (now (a .ops-back)) (now (a .calls-back))
+    tripOf (a .gap) (now (a .calls))
+    (tripLent (now (a .bytes)) (now (a .stamps)) (now (a .ops)) (now (a .accesses)) (now (a .table)) (now (a .ops-back)) (now (a .calls-back)))
 
 -- what the types say
-typed-at : (c : tie.After-slice-known) → TypedTrip (trip-at c)
-typed-at c =
-    record {
-      gap = search needs;
-      calls = λ i. omega (arith, c .before .shared-slice-known .given i);
-      bytes = λ i. omega (arith, c .slice-known .given i);
-    }
+typed-at : (c : tie.After-slice-known) → TypedTrip (trip-of c)
+typed-at c = record { gap = search needs; bytes = λ i. omega (arith, c .slice-known .given i) }
 
 -- the answer, by the counts
-decided-at : (c : tie.After-decide) → c .decide .result ≡ decidedOf (trip-at (started c))
+decided-at : (c : tie.After-decide) → c .decide .result ≡ decidedOf (trip-of (known-of c))
 decided-at c =
-    let t = trip-at (started c) in
+    let l = trip-of (known-of c) .lists in
+    let counted = c .before .count .ensures in
     c .decide .ensures
-    ∙ ap₂ (λ (n m : ℕ). decided n m (length (t .table)) (length (t .opsBack)) (length (t .callsBack)))
-    (c .before .count .ensures .0)
-    (c .before .count .ensures .1 .0)
+    ∙ ap₂ (λ (n m : ℕ). decided n m (length (l .table)) (length (l .opsBack)) (length (l .callsBack))) (counted .0) (counted .1 .0)
 
 run-requires : tie.Need-run-requires
 run-requires c κs =
-    let told = c .before .before .before .before .before .before .before .before in
+    let told = told-of c in
     let found = told .before .before in
-    may-run (trip-at (started found)) (typed-at (started found)) _ (decided-at found) _ _ _ (told .answer .given .1)
+    may-run (trip-of (known-of found)) (typed-at (known-of found)) _ (decided-at found) _ _ _ (told .answer .given .1)
 
 returns : tie.Need-returns
 returns c =
-    let ran = c .before .before .before .before .before .before .before .before .before .before .before .before .before .before in
-    let told = ran .before .before .before .before .before .before .before .before .before in
+    let ran = ran-of c in
+    let told = told-of (ran .before) in
     let found = told .before .before in
     let is = sym (told .answer .given .1) ∙ decided-at found in
-    ended-through (trip-at (started found)) (typed-at (started found)) _ is _ _ _ refl _ _ _ _ (ran .run .ensures)
+    ended-through (trip-of (known-of found)) (typed-at (known-of found)) _ is _ _ _ refl _ (ran .run .ensures)
 
 returns-2 : tie.Need-returns-2
 returns-2 c =
     let found = c .before in
-    ended-refused (trip-at (started found)) (typed-at (started found)) _ (decided-at found) (c .match .keys2)
+    ended-refused (trip-of (known-of found)) (typed-at (known-of found)) _ (decided-at found) (c .match .keys2)
 
 pub round-trip-spec : {M : Type 1} → statement M
 round-trip-spec =

@@ -14,7 +14,7 @@ refused-call c =
     let at-line = at-call .before .before .before .before .before .before in
     step-stop _ _ _ _ _ _ _ _ _ (sym (at-line .before .before .parse-call .ensures) ∙ at-line .line .given .1)
     (at-call .collect-copy-ops .result)
-    (at-call .collect-copy-ops .ensures .0) (at-call .collect-copy-ops .ensures .1) _ (c .numbers .ensures) (c .before .match2 .keys2)
+    (at-call .collect-copy-ops .ensures) _ (c .numbers .ensures) (c .before .match2 .keys2)
 
 accepted-call : tie.Need-returns-3
 accepted-call c =
@@ -23,7 +23,7 @@ accepted-call c =
     let at-line = at-call .before .before .before .before .before .before in
     step-rows _ _ _ _ _ _ _ _ _ (sym (at-line .before .before .parse-call .ensures) ∙ at-line .line .given .1)
     (at-call .collect-copy-ops .result)
-    (at-call .collect-copy-ops .ensures .0) (at-call .collect-copy-ops .ensures .1) _ _ (at-answer .answer .given .1)
+    (at-call .collect-copy-ops .ensures) _ _ (at-answer .answer .given .1)
 
 pub run-line-spec : {M : Type 1} → statement M
 run-line-spec =

@@ -1,105 +1,91 @@
--- `call_lines::run::run_lines` meets its contract. The invariant: reading on from here, with the window and the records as they are now,
--- comes to what all lines come to. Assumes nothing.
-use Prim.Native.Nat.{_+_, _*_, _-_, _≤_}
-use mathlib.Core.Path.{_≡_, refl, _∙_}
-use mathlib.Core.List.{[]}
+-- `call_lines::run::run_lines` meets its contract: finishing from each line on gives the whole. Assumes nothing.
+use mathlib.Core.Path.{_≡_, _∙_}
+use Prim.Native.Nat.{_-_, _≤_}
 use native.Mathlib.Omega.{arith}
 use borrow.Author.Needs.{needs}
-use lib.ListN.{length, take, drop}
-use Rattle.line_text.specs.Lines.{lines}
-use Rattle.call_lines.specs.Run.{OPS-ROOM, ACCESSES-ROOM, run, linesFrom}
-use Rattle.call_lines.proofs.Turns.{Turn, turn-stops, turn-fits, turn-goes, turns-end}
+use denote.Ref.{now}
+use lib.ListN.{length}
+use Rattle.expansion.specs.Tries.{under, Lent, lent}
+use Rattle.call_lines.specs.Run.{OPS-ROOM}
+use Rattle.call_lines.proofs.Turns.{Turn, Running, running-start, running-turn, turn-stops, turn-fits, turns-end}
 use Rattle.call_lines.proofs.run.run_lines.Statement.{statement}
 use Rattle.call_lines.proofs.run.run_lines.Tie as tie
 
 abbrev Inv-loop : tie.InvT-loop
 Inv-loop gap text bytes₀ stamps₀ ops₀ accesses₀ at₀ line₀ rows₀ bytes stamps ops accesses at line rows =
-    (at ≤ length text)
-    × (length ops ≡ OPS-ROOM)
-    × (length accesses ≡ ACCESSES-ROOM)
-    × (16 * rows ≤ OPS-ROOM)
-    × (line ≤ rows + 2)
-    × (linesFrom gap line (lines (drop at text)) (run bytes stamps (take (16 * rows) ops))
-    ≡ linesFrom gap 2 (lines text) (run bytes₀ stamps₀ []))
-    × (length bytes ≡ length bytes₀)
-    × (length stamps ≡ length stamps₀)
+    Running (under gap) text (lent bytes₀ stamps₀ ops₀ accesses₀) (lent bytes stamps ops accesses) at line rows
 
 abbrev μ-loop : tie.MeasureT-loop
-μ-loop gap text bytes₀ stamps₀ ops₀ accesses₀ at₀ line₀ rows₀ bytes stamps ops accesses at line rows =
-    length text - at
+μ-loop gap text bytes₀ stamps₀ ops₀ accesses₀ at₀ line₀ rows₀ bytes stamps ops accesses at line rows = length text - at
 
-loop-holds : tie.Need-loop-holds Inv-loop μ-loop
-loop-holds c =
-    let given = c .before .before .before .before .before .pre in
-    (omega arith, given .0, given .1, omega arith, omega arith, refl, refl, refl)
+-- places: the entry seen from the loop, the loop seen from the line's call, that call seen from its answer
+abbrev start-of : tie.At-loop Inv-loop μ-loop → tie.Start Inv-loop μ-loop
+start-of c = let known = c .before .before .before in known .before .before .before
+
+abbrev head-of : tie.After-run-line Inv-loop μ-loop → tie.After-head Inv-loop μ-loop
+head-of c = let lent-second = c .before .before .before in lent-second .before .before
+
+abbrev loop-of : tie.After-head Inv-loop μ-loop → tie.At-loop Inv-loop μ-loop
+loop-of c = c .before .before .before
+
+abbrev line-of : tie.After-slice-known8 Inv-loop μ-loop → tie.After-run-line Inv-loop μ-loop
+line-of c = let ops-back = c .before .before .before in let bytes-known = ops-back .before .before .before in bytes-known .before .before
+
+-- the four slices at the entry, and at the head of the loop
+abbrev l₀-of : tie.Start Inv-loop μ-loop → Lent
+l₀-of c = lent (now (c .args .bytes)) (now (c .args .stamps)) (now (c .args .ops)) (now (c .args .accesses))
+
+abbrev l-of : tie.At-loop Inv-loop μ-loop → Lent
+l-of c = lent (c .loop .bytes) (c .loop .stamps) (c .loop .ops) (c .loop .accesses)
+
+-- the record buffer keeps its length
+ops-room : (c : tie.At-loop Inv-loop μ-loop) → length (c .loop .ops) ≡ OPS-ROOM
+ops-room c = c .loop .inv .ops-same ∙ start-of c .pre .0
+
+few-rows : (c : tie.At-loop Inv-loop μ-loop) → c .loop .rows ≤ 32
+few-rows c = omega (arith, c .loop .inv .room, ops-room c)
+
+turn-at : (c : tie.After-run-line Inv-loop μ-loop) →
+    let head = head-of c in
+    let at = loop-of head in
+    let start = start-of at in
+    Turn (under (start .args .gap)) (at .loop .at) (at .loop .rows) (now (start .args .text)) (l-of at) (now (head .head .result)) (c .run-line .result)
+turn-at c =
+    let head = head-of c in
+    let at = loop-of head in
+    record {
+      more = head .before .before .loop-test .taken;
+      fits = at .loop .inv .room;
+      line = head .head .ensures;
+      came = c .run-line .ensures .0;
+    }
 
 line-refused : tie.Need-returns Inv-loop μ-loop
 line-refused c =
-    let at-line = c .before .before .before .before .before .before .before .before .before .before .before in
-    let at-head = at-line .before .before .before .before .before in
-    let l = at-head .before .before .before .loop in
-    let text = at-head .before .before .before .before .before .before .before .before .before .args .text .now in
-    let t : Turn _ (l .at) (l .rows) text (l .bytes) (l .stamps) (l .ops) (l .accesses) _ _ =
-    record {
-      more = at-head .before .before .loop-test .taken;
-      ops-room = l .inv .1;
-      accesses-room = l .inv .2;
-      rows-room = l .inv .3;
-      line = at-head .head .ensures;
-      came = at-line .run-line .ensures .0;
-    } in
-    (omega arith, turn-stops t _ _ (c .before .step .given .1) ∙ l .inv .5)
+    let told = c .before in
+    let line = line-of (told .before .before) in
+    let at = loop-of (head-of line) in
+    (omega arith, turn-stops (turn-at line) _ _ (told .step .given .1) ∙ at .loop .inv .goes-on)
 
 add-rows : tie.Need-add-rows Inv-loop μ-loop
 add-rows c =
-    let at-line = c .before .before .before .before .before .before .before .before .before .before .before in
-    let at-head = at-line .before .before .before .before .before in
-    let l = at-head .before .before .before .loop in
-    let text = at-head .before .before .before .before .before .before .before .before .before .args .text .now in
-    let t : Turn _ (l .at) (l .rows) text (l .bytes) (l .stamps) (l .ops) (l .accesses) _ _ =
-    record {
-      more = at-head .before .before .loop-test .taken;
-      ops-room = l .inv .1;
-      accesses-room = l .inv .2;
-      rows-room = l .inv .3;
-      line = at-head .head .ensures;
-      came = at-line .run-line .ensures .0;
-    } in
-    let fits = turn-fits t _ (c .before .step2 .given .1) in
-    omega (arith, fits .1)
+    let told = c .before in
+    let line = line-of (told .before .before) in
+    let fits = turn-fits (turn-at line) _ (told .step2 .given .1) 0 in
+    omega (arith, fits .1, ops-room (loop-of (head-of line)))
 
 loop-again : tie.Need-loop-again Inv-loop μ-loop
 loop-again c =
-    let at-line = c .before .before .before .before .before .before .before .before .before .before .before .before in
-    let at-head = at-line .before .before .before .before .before in
-    let l = at-head .before .before .before .loop in
-    let text = at-head .before .before .before .before .before .before .before .before .before .args .text .now in
-    let t : Turn _ (l .at) (l .rows) text (l .bytes) (l .stamps) (l .ops) (l .accesses) _ _ =
-    record {
-      more = at-head .before .before .loop-test .taken;
-      ops-room = l .inv .1;
-      accesses-room = l .inv .2;
-      rows-room = l .inv .3;
-      line = at-head .head .ensures;
-      came = at-line .run-line .ensures .0;
-    } in
-    let fits = turn-fits t _ (c .before .before .step2 .given .1) in (
-      omega arith,
-      search needs,
-      search needs,
-      fits .1,
-      omega (arith, fits .0),
-      turn-goes t _ (c .before .before .step2 .given .1) (l .line) (c .next-line .result) _ _ _ _ (at-line .run-line .ensures .1)
-          (c .next-line .ensures .2)
-          ∙ l .inv .5,
-      search needs,
-      search needs,
-    )
+    let told = c .before .before in
+    let line = line-of (told .before .before) in
+    let at = loop-of (head-of line) in
+    running-turn (l₀-of (start-of at)) (at .loop .line) (at .loop .inv) (turn-at line) _ (told .step2 .given .1) _ (line .run-line .ensures .1)
+    (c .next-line .result) (c .next-line .ensures .1) (c .next-line .ensures .2)
 
 all-read : tie.Need-returns-2 Inv-loop μ-loop
 all-read c =
-    let l = c .before .loop in
-    (omega arith, turns-end _ _ (l .at) _ _ (c .loop-test .left) ∙ l .inv .5)
+    let at = c .before in
+    (few-rows at, turns-end _ _ (l-of at) (at .loop .at) (at .loop .line) (at .loop .rows) (c .loop-test .left) ∙ at .loop .inv .goes-on)
 
 pub run-lines-spec : {M : Type 1} → statement M
 run-lines-spec =
@@ -107,7 +93,7 @@ run-lines-spec =
     (tie.spec
     Inv-loop
     μ-loop
-    loop-holds
+    (λ c. running-start _ _ _)
     (λ c. search needs)
     (λ c. search needs)
     (λ c. search needs)

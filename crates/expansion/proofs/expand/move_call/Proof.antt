@@ -6,7 +6,7 @@ use Prim.Native.Nat.{ℕ, _<_}
 use native.Mathlib.Omega.{arith}
 use denote.Ref.{now}
 use Rattle.call.specs.Calls.{callOf}
-use Rattle.expansion.specs.Expansion.{lent}
+use Rattle.expansion.specs.Tries.{lent}
 use Rattle.expansion.proofs.Moved.{empty-room, pass-inside, expanded-empty, expanded-pass}
 use Rattle.expansion.proofs.expand.move_call.Statement.{statement}
 use Rattle.expansion.proofs.expand.move_call.Tie as tie

@@ -5,6 +5,7 @@ use native.Mathlib.Omega.{arith}
 use borrow.Author.Needs.{needs}
 use borrow.Author.Tests.{lt-ltb, le-ltb}
 use lib.Dec.{lit≤}
+use Rattle.records.specs.Records.{LIMIT}
 use Rattle.records.specs.RowCount.{rowCount}
 use Rattle.records.proofs.RowCount.{row-count-le}
 use Rattle.copy_row.specs.Columns.{COLUMNS}
@@ -15,7 +16,7 @@ use Rattle.round_trip.proofs.legs.decide.Tie as tie
 
 returns : tie.Need-returns
 unfolding decided
-returns c = rw (lt-ltb 65536 _ (c .if1 .taken))
+returns c = rw (lt-ltb LIMIT _ (c .if1 .taken))
 
 mul-if2 : tie.Need-mul-if2
 mul-if2 c =
@@ -28,21 +29,21 @@ unfolding decided
 returns-2 c =
     let a = c .before .before .before .args in
     let unmade : a .table-room < COLUMNS * rowCount (a .n) = rw (c .before .row-count .ensures) at (c .if2 .taken) in
-    rw (le-ltb 65536 _ (c .before .before .if1 .left), lt-ltb _ _ unmade)
+    rw (le-ltb LIMIT _ (c .before .before .if1 .left), lt-ltb _ _ unmade)
 
 returns-3 : tie.Need-returns-3
 unfolding decided
 returns-3 c =
     let a = c .before .before .before .before .args in
     let made : COLUMNS * rowCount (a .n) ≤ a .table-room = rw (c .before .before .row-count .ensures) at (c .before .if2 .left) in
-    rw (le-ltb 65536 _ (c .before .before .before .if1 .left), le-ltb _ _ made, c .if3 .taken)
+    rw (le-ltb LIMIT _ (c .before .before .before .if1 .left), le-ltb _ _ made, c .if3 .taken)
 
 returns-4 : tie.Need-returns-4
 unfolding decided
 returns-4 c =
     let a = c .before .before .before .before .args in
     let made : COLUMNS * rowCount (a .n) ≤ a .table-room = rw (c .before .before .row-count .ensures) at (c .before .if2 .left) in
-    rw (le-ltb 65536 _ (c .before .before .before .if1 .left), le-ltb _ _ made, c .if3 .left)
+    rw (le-ltb LIMIT _ (c .before .before .before .if1 .left), le-ltb _ _ made, c .if3 .left)
     (ap (λ rows. Passed rows (a .n) (a .m)) (c .before .before .row-count .ensures))
 
 pub decide-spec : {M : Type 1} → statement M

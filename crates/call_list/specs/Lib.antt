@@ -1,2 +1,0 @@
-pub mod CallList
-pub mod Counts

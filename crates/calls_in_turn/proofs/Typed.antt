@@ -1,0 +1,42 @@
+-- Calls whose numbers fit their types, over a window of bytes, find a window of bytes each. Assumes nothing.
+use mathlib.Core.Logic.{_⊎_, inl, inr}
+use mathlib.Core.Bool.{Bool, true, false, cond}
+use mathlib.Core.Path.{_≡_, refl}
+use mathlib.Core.List.{List, [], _∷_}
+use Prim.Native.Nat.{ℕ}
+use Rattle.lists.specs.Lists.{All}
+use Rattle.call.specs.Calls.{Call}
+use Rattle.call.specs.Flat.{callFrom, goodCall}
+use Rattle.call.specs.Cuts.{Words}
+use Rattle.call.proofs.GoodCalls.{good-words}
+use Rattle.expansion_rows.specs.Inside.{Bytes}
+use Rattle.expansion.specs.Tries.{Setting, Lent, Try, tryOf, Typed}
+use Rattle.expansion.specs.Expansion.{expanded, lentAfter}
+use Rattle.expansion.proofs.Outcome.{Refused, Taken, outcome}
+use Rattle.expansion.proofs.CallBytes.{call-bytes}
+use Rattle.calls_in_turn.specs.InTurn.{callsFrom, leaves, triesOf}
+
+-- the calls of a flat list are good ones
+pub calls-words : (rs : List (List ℕ)) → All Words (callsFrom rs)
+unfolding callsFrom
+calls-words [] = tt
+calls-words (r ∷ rs) = go (goodCall r) refl (calls-words rs)
+  where
+    go : (b : Bool) → goodCall r ≡ b → All Words (callsFrom rs) → All Words (cond b (callFrom r ∷ callsFrom rs) (callsFrom rs))
+    go true e later = (good-words r e, later)
+    go false e later = later
+
+module _ (s : Setting) where
+  leaves-bytes : (t : Try) → Bytes (t .slices .bytes) → Bytes (leaves s t .bytes)
+  unfolding leaves expanded
+  leaves-bytes t h = go (outcome s t)
+    where
+      go : Refused s t ⊎ Taken s t → Bytes (lentAfter s t .bytes)
+      go (inl r) = rw (r .kept) h
+      go (inr k) = rw (k .after) (call-bytes (t .call) (t .slices .bytes) h)
+
+  pub tries-typed : (cs : List Call) (l : Lent) → All Words cs → Bytes (l .bytes) → All Typed (triesOf s cs l)
+  unfolding triesOf
+  tries-typed [] l w h = tt
+  tries-typed (c ∷ cs) l w h =
+      (record { words = w .0; bytes = h }, tries-typed cs (leaves s (tryOf c l)) (w .1) (leaves-bytes (tryOf c l) h))

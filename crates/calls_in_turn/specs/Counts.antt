@@ -1,0 +1,24 @@
+-- How many records and calls the expansion accepts of a list of calls, told before anything is written: its answer depends on the lengths
+-- of the four slices alone. proofs/Counted.antt shows that these are the counts of what `triesOf` has accepted. Assumes nothing.
+use mathlib.Core.List.{List, [], _∷_}
+use Prim.Native.Nat.{ℕ, _+_, _-_, _*_}
+use lib.Dec.{ltb}
+use Rattle.words.specs.Words.{bit}
+use Rattle.call.specs.Calls.{Call}
+use Rattle.call.specs.Ops.{OP-WIDTH}
+use Rattle.expansion.specs.Tries.{Setting, Lengths, lengthsAre}
+use Rattle.expansion.specs.Refusals.{answerBy}
+
+-- the lengths behind k more records
+abbrev pub behind : Lengths → ℕ → Lengths
+behind n k = lengthsAre (n .cells) (n .stamped) (n .ops - OP-WIDTH * k) (n .accesses)
+
+-- how many records all calls add: each finds the room that those before it left, and a refused one adds none
+unfoldable pub allRecords : Setting → List Call → Lengths → ℕ
+allRecords s [] n = 0
+allRecords s (c ∷ cs) n = let k = answerBy s c n .value in k + allRecords s cs (behind n k)
+
+-- how many calls are accepted: those that add a record
+unfoldable pub allCalls : Setting → List Call → Lengths → ℕ
+allCalls s [] n = 0
+allCalls s (c ∷ cs) n = let k = answerBy s c n .value in bit (ltb 0 k) + allCalls s cs (behind n k)
