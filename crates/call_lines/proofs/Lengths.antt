@@ -8,8 +8,9 @@ use native.Mathlib.Omega.{arith}
 use borrow.Author.Tests.{leb-true, leb-false}
 use lib.Dec.{eqb, leb}
 use lib.ListN.{length, length-take, length-drop}
+use Rattle.lists.specs.Lists.{same}
 use Rattle.call.specs.declared.Functionality.{Functionality}
-use Rattle.line_text.specs.Pieces.{indexOf, before, after, same}
+use Rattle.line_text.specs.Pieces.{indexOf, before, after}
 use Rattle.line_text.specs.Numbers.{numberOf}
 use Rattle.line_text.specs.Lines.{wordOf, gapOf, callOf, gapWord, copyWord, setWord, writeWord}
 use Rattle.line_text.specs.declared.Line.the-variants.{Other}

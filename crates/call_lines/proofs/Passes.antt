@@ -28,31 +28,30 @@ use Rattle.call.specs.Cuts.{opsOf, Words}
 use Rattle.expansion_rows.proofs.HeldOps.{bytes-zeros}
 use Rattle.expansion.specs.Tries.{Try, Typed, Setting, under, Lent, tryOf}
 use Rattle.expansion.specs.Refusals.{answered}
+use Rattle.calls_in_turn.specs.Accepted.{opsWritten, acceptedOps, acceptedOf}
+use Rattle.calls_in_turn.specs.InTurn.{leaves, triesOf}
+use Rattle.calls_in_turn.proofs.Written.{ops-more}
+use Rattle.calls_in_turn.proofs.Counted.{records-fit}
+use Rattle.calls_in_turn.proofs.Typed.{tries-typed}
 use Rattle.copy_row.specs.Columns.{COLUMNS}
 use Rattle.copy_row.specs.Trace.{copyAnswer, copyAfter}
 use Rattle.copy_row.proofs.CopyTable.{after-length}
 use Rattle.copy_meaning.specs.Steps.{LiveStep}
 use Rattle.calls.proofs.Chained.{chain}
 use Rattle.chain.specs.Chain.{chainAnswer, chainNumbers}
-use Rattle.line_text.specs.Pieces.{after}
-use Rattle.line_text.specs.Lines.{lines, callOf}
-use Rattle.line_text.specs.declared.Line.{Line}
-use Rattle.line_text.specs.declared.Line.the-variants.{Call, Other}
-use Rattle.row_text.specs.Rows.{rowsText, passedText}
-use Rattle.calls_in_turn.specs.Accepted.{opsWritten, acceptedOps, acceptedOf}
-use Rattle.calls_in_turn.specs.InTurn.{leaves, triesOf}
-use Rattle.calls_in_turn.proofs.Written.{ops-more}
-use Rattle.calls_in_turn.proofs.Counted.{records-fit}
-use Rattle.calls_in_turn.proofs.Typed.{tries-typed}
 use Rattle.demand.specs.Demand.{Passes}
 use Rattle.demand.proofs.Whole.{steps}
 use Rattle.demand.proofs.GoodRecords.{records-wide, maker-answer}
 use Rattle.demand.proofs.Accepted.{cutTry, tries-fit, tries-wrote}
 use Rattle.demand.proofs.Demand.{demand3}
+use Rattle.line_text.specs.Pieces.{after}
+use Rattle.line_text.specs.Lines.{lines, callOf}
+use Rattle.line_text.specs.declared.Line.{Line}
+use Rattle.line_text.specs.declared.Line.the-variants.{Call, Other}
+use Rattle.row_text.specs.Rows.{rowsText, passedText}
 use Rattle.call_lines.specs.Run.{Ending, done, refused, OPS-ROOM, onAnswer, onLine, linesFrom, inFront}
 use Rattle.call_lines.specs.Output.{TABLE-ROOM, tableOf, verdictOf, verdictText, endingText, start, VerdictPasses}
 use Rattle.call_lines.proofs.Printed.{good-gap}
-use Rattle.call_lines.proofs.Typed.{call-words}
 use Rattle.call_lines.proofs.Typed.{call-words}
 
 -- The calls of lines that are all accepted

@@ -19,6 +19,9 @@ use Rattle.expansion.specs.Tries.{Setting, under, Lent, Lengths, Try, tryOf}
 use Rattle.expansion.specs.Refusals.{answered}
 use Rattle.expansion.proofs.Outcome.{taken-try}
 use Rattle.expansion.proofs.Cut.{op-count-pos}
+use Rattle.calls_in_turn.specs.Accepted.{opsWritten}
+use Rattle.calls_in_turn.specs.InTurn.{leaves}
+use Rattle.calls_in_turn.proofs.Written.{taken-value, leaves-lengths}
 use Rattle.line_text.specs.Pieces.{indexOf, before, after}
 use Rattle.line_text.specs.Lines.{lines, gapOf, callOf}
 use Rattle.line_text.specs.declared.Line.{Line}
@@ -27,9 +30,6 @@ use Rattle.line_text.specs.declared.Parsed.{Parsed}
 use Rattle.line_text.specs.declared.Parsed.the-variants.{Number, Bad}
 use Rattle.line_text.proofs.Pieces.{lines-first}
 use Rattle.row_text.specs.Rows.{refusedText}
-use Rattle.calls_in_turn.specs.Accepted.{opsWritten}
-use Rattle.calls_in_turn.specs.InTurn.{leaves}
-use Rattle.calls_in_turn.proofs.Written.{taken-value, leaves-lengths}
 use Rattle.call_lines.specs.Run.{refused, inFront, onAnswer, onLine, linesFrom}
 use Rattle.call_lines.specs.Output.{endingText, start, onGap, outputOf, PrefixDecides}
 use Rattle.call_lines.proofs.Lengths.{index-le, call-long, gap-long}

@@ -17,15 +17,15 @@ use Rattle.expansion.specs.Refusals.{answered}
 use Rattle.expansion.specs.Expansion.{lentAfter}
 use Rattle.expansion.proofs.Outcome.{taken-try}
 use Rattle.expansion.proofs.Cut.{op-count-pos}
+use Rattle.calls_in_turn.specs.Accepted.{opsWritten}
+use Rattle.calls_in_turn.specs.InTurn.{behindOps, leaves}
+use Rattle.calls_in_turn.proofs.Written.{taken-value, written-length, written-room, leaves-lengths}
+use Rattle.calls_in_turn.proofs.Behind.{partOf, backIn, part-whole, Stood, stood}
 use Rattle.line_text.specs.Pieces.{before, after}
 use Rattle.line_text.specs.Lines.{lines, callOf}
 use Rattle.line_text.specs.declared.Line.{Line}
 use Rattle.line_text.specs.declared.Line.the-variants.{Call, Other}
 use Rattle.line_text.proofs.Pieces.{lines-at, rest-is}
-use Rattle.calls_in_turn.specs.Accepted.{opsWritten}
-use Rattle.calls_in_turn.specs.InTurn.{behindOps, leaves}
-use Rattle.calls_in_turn.proofs.Written.{taken-value, written-length, written-room, leaves-lengths}
-use Rattle.calls_in_turn.proofs.Behind.{partOf, backIn, part-whole, Stood, stood}
 use Rattle.call_lines.specs.Step.{stepOf, lineStep, lineAfter}
 use Rattle.call_lines.specs.Run.{Ending, done, refused, inFront, onAnswer, onLine, linesFrom}
 use Rattle.call_lines.specs.declared.Step.{Step}

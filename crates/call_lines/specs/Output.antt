@@ -5,13 +5,15 @@
 use mathlib.Core.Path.{_≡_}
 use Prim.Native.Nat.{ℕ, _*_, _/_, _^_, _≤_, _<_}
 use mathlib.Core.Bool.{cond}
-use mathlib.Core.List.{List, [], _++_}
+use mathlib.Core.List.{List, _++_}
 use lib.Dec.{eqb, leb}
 use lib.ListN.{length, take, replicate}
 use Rattle.answer.specs.declared.Answer.{Answer}
+use Rattle.records.specs.Records.{LIMIT}
 use Rattle.records.specs.RowCount.{rowCount}
 use Rattle.records.specs.Table.{tableNumbers}
 use Rattle.call.specs.Ops.{OP-WIDTH}
+use Rattle.expansion.specs.Tries.{under, Lent, lent}
 use Rattle.copy_row.specs.Columns.{COLUMNS}
 use Rattle.copy_row.specs.Trace.{copyAnswer, copyAfter}
 use Rattle.chain.specs.Chain.{chainAnswer, chainNumbers}
@@ -20,8 +22,6 @@ use Rattle.line_text.specs.Lines.{lines, gapOf}
 use Rattle.line_text.specs.declared.Parsed.{Parsed}
 use Rattle.line_text.specs.declared.Parsed.the-variants.{Number, Bad}
 use Rattle.row_text.specs.Rows.{rowsText, passedText, refusedText}
-use Rattle.records.specs.Records.{LIMIT}
-use Rattle.expansion.specs.Tries.{under, Lent, lent}
 use Rattle.call_lines.specs.Run.{ROWS, OPS-ROOM, ACCESSES-ROOM, Ending, done, refused, linesFrom}
 
 -- a table with room for 32 rows

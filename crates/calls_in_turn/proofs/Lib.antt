@@ -5,3 +5,4 @@ pub mod Behind
 pub mod Records
 pub mod Counting
 pub mod Expanding
+pub mod Computing

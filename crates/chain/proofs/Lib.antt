@@ -1,3 +1,4 @@
 pub mod Links
 pub mod Rows
-pub mod Answers
+pub mod Passed
+pub mod Computing

@@ -7,11 +7,11 @@ use native.Mathlib.Omega.{arith}
 use borrow.Author.Tests.{eq-eqb, ne-eqb}
 use lib.Dec.{eqb}
 use lib.ListN.{length}
-use Rattle.lists.specs.Lists.{at}
+use Rattle.lists.specs.Lists.{at, same}
 use Rattle.copy_row.specs.Columns.{TIMESTAMP, SRC, SRC-INCR, DST, DST-INCR, COUNT, COUNT-DECR, FIRST, END, IS-SET, IS-WRITE, MU, COLUMNS}
 use Rattle.copy_meaning.specs.ReadRow.{wordsAt, halvesAt}
-use Rattle.plain_row.specs.Tests.{Fits}
-use Rattle.chain.specs.Link.{closed, unended, dead, same, shown, handedOn, linked, before}
+use Rattle.plain_row.specs.Tests.{Caps}
+use Rattle.chain.specs.Link.{closed, unended, dead, shown, handedOn, linked, before}
 use Rattle.chain.specs.Standing.{standing, Stood, isUnended}
 
 -- ---- seven equal numbers, as the code joins the tests
@@ -71,11 +71,11 @@ pub stood-none : (l : List ℕ) → length l ≡ 0 → Stood l
 unfolding Stood
 stood-none l e h = absurd (omega arith)
 
-pub stood-row : (l : List ℕ) → length l ≡ COLUMNS → Fits l → Stood l
+pub stood-row : (l : List ℕ) → length l ≡ COLUMNS → Caps l → Stood l
 unfolding Stood
 stood-row l e f h = (e, f)
 
-pub row-stood : (l : List ℕ) → Stood l → 0 < length l → (length l ≡ COLUMNS) × Fits l
+pub row-stood : (l : List ℕ) → Stood l → 0 < length l → (length l ≡ COLUMNS) × Caps l
 unfolding Stood
 row-stood l s h = s h
 

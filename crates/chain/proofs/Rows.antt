@@ -1,76 +1,117 @@
 -- The chain check from row k on: what each finding on row k makes of the answer, and what the list's end does. Document 01: "The check
 -- stops at the first row and, in it, the first check that fails." Assumes nothing.
-use mathlib.Core.Path.{_≡_, refl, sym, _∙_}
+use mathlib.Core.Path.{_≡_, refl, sym, ap, _∙_}
 use mathlib.Core.Bool.{true, false, cond}
-use mathlib.Core.List.{List, _∷_}
-use Prim.Native.Nat.{ℕ, suc, _+_, _-_, _*_, _/_, _≤_, _<_}
+use mathlib.Core.List.{List, [], _∷_}
+use Prim.Native.Nat.{ℕ, _+_, _-_, _/_, _%_, _^_, _≤_, _<_}
 use native.Mathlib.Omega.{arith}
-use lib.ListN.{length, take, drop, length-take, length-drop}
-use lib.Seq.{drop-drop}
+use borrow.Author.Tests.{eq-eqb, ne-eqb, le-leb, lt-leb}
+use lib.ListN.{length}
+use Rattle.lists.specs.Lists.{listed}
+use Rattle.lists.proofs.Listed.{listed-left, listed-over, listed-length}
+use Rattle.records.specs.Records.{recordCount, recordAt, recordsIn}
+use Rattle.records.proofs.Records.{record-length}
 use Rattle.copy_row.specs.Columns.{COLUMNS}
 use Rattle.copy_residues.specs.RowCheck.{rowFault}
 use Rattle.copy_residues.specs.declared.RowFault.the-variants.{Fine, NotElement, OutOfRange, NotZero}
+use Rattle.plain_row.proofs.Same.{fits-of-fine}
 use Rattle.chain.specs.Link.{Before, closed, unended, dead, linked, before}
-use Rattle.chain.specs.Chain.{rowsFrom, onFault, onEnd, chainFrom}
-use Rattle.chain.specs.Standing.{standing, isUnended}
-use Rattle.chain.specs.declared.ChainAnswer.{ChainAnswer}
-use Rattle.chain.specs.declared.ChainAnswer.the-variants.{Passed, BadElement, BadRange, BadResidue, LinkBroken, NotEnded}
-use Rattle.chain.proofs.Links.{standing-row}
+use Rattle.chain.specs.Chain.{tableRows, onFault, onEnd, chainFrom, chainAnswer}
+use Rattle.chain.specs.Standing.{standing, Stood, isUnended}
+use Rattle.chain.specs.declared.ChainAnswer.the-variants.{Passed, Refused}
+use Rattle.chain.specs.declared.ChainRefusal.the-variants.{GapTooLarge, NotRows, BadElement, BadRange, BadResidue, LinkBroken, NotEnded}
+use Rattle.chain.proofs.Links.{stood-none, stood-row, standing-none, standing-row}
 
--- the part of the list that is row k
+-- row k, and the rows from row k on
 abbrev pub rowAt : List ℕ → ℕ → List ℕ
-rowAt l k = take (41 * k + 41 - 41 * k) (drop (41 * k) l)
+rowAt l k = recordAt COLUMNS l k
 
--- the rows from row k on
 abbrev pub restAt : List ℕ → ℕ → List (List ℕ)
-restAt l k = rowsFrom (length l / COLUMNS - k) (drop (41 * k) l)
+restAt l k = listed (rowAt l) k (length l / COLUMNS - k)
 
 pub row-length : (l : List ℕ) (k : ℕ) → k < length l / COLUMNS → length (rowAt l k) ≡ COLUMNS
-row-length l k h = simp (length-take, length-drop) (omega arith)
+row-length l k h = record-length COLUMNS l k (omega arith)
 
-rest-row : (l : List ℕ) (k : ℕ) → k < length l / COLUMNS → restAt l k ≡ rowAt l k ∷ restAt l (k + 1)
-unfolding rowsFrom
-rest-row l k h =
-    let s : length l / COLUMNS - k ≡ suc (length l / COLUMNS - (k + 1)) = omega arith in
-    let e : 41 * k + 41 - 41 * k ≡ 41 = omega arith in
-    let d : 41 * (k + 1) ≡ 41 * k + 41 = omega arith in
-    rw (s, e, d, drop-drop 41 (41 * k) l)
+-- whole rows, from the first on
+pub rest-all : (l : List ℕ) → length l % COLUMNS ≡ 0 → tableRows l ≡ restAt l 0
+unfolding recordsIn
+rest-all l whole = let e : recordCount COLUMNS l ≡ length l / COLUMNS - 0 = omega arith in ap (listed (rowAt l) 0) e
 
--- ---- at row k, b before it, where the answer v is that of the rows from k on
-module _ (gap k : ℕ) (b : Before) (l : List ℕ) (v : ChainAnswer) (e : v ≡ chainFrom gap b k (restAt l k)) (h : k < length l / COLUMNS) where
-  at-row : v ≡ onFault (rowFault gap (rowAt l k)) k (cond (linked b (rowAt l k)) (chainFrom gap (before (rowAt l k)) (k + 1) (restAt l (k + 1))) (LinkBroken k))
-  unfolding chainFrom
-  at-row = e ∙ rw (rest-row l k h)
+pub rows-count : (l : List ℕ) → length l % COLUMNS ≡ 0 → length (tableRows l) ≡ length l / COLUMNS
+rows-count l whole = ap length (rest-all l whole) ∙ listed-length (rowAt l) 0 (length l / COLUMNS - 0) ∙ omega arith
 
-  pub from-element : rowFault gap (rowAt l k) ≡ NotElement → BadElement k ≡ v
-  from-element q = sym (at-row ∙ rw q)
+-- What a walk over the rows has when it comes to row k: what stands before it, and the answer as that of the rows from k on
 
-  pub from-range : rowFault gap (rowAt l k) ≡ OutOfRange → BadRange k ≡ v
-  from-range q = sym (at-row ∙ rw q)
+pub record Walk (gap : ℕ) (l previous : List ℕ) (k : ℕ) : Type 0 where
+  pub within : k ≤ length l / COLUMNS
+  pub stood : Stood previous
+  pub rest : chainAnswer gap l ≡ chainFrom gap (standing previous) k (restAt l k)
 
-  pub from-residue : (i : ℕ) → rowFault gap (rowAt l k) ≡ NotZero i → BadResidue k i ≡ v
-  from-residue i q = sym (at-row ∙ rw q)
+module _ (gap : ℕ) (l : List ℕ) where
+  pub gap-large : 2 ^ 32 ≤ gap → Refused GapTooLarge ≡ chainAnswer gap l
+  unfolding chainAnswer
+  gap-large h = rw (le-leb (2 ^ 32) gap h)
 
-  module _ (fine : rowFault gap (rowAt l k) ≡ Fine) where
-    pub from-broken : linked b (rowAt l k) ≡ false → LinkBroken k ≡ v
-    from-broken q = sym (at-row ∙ rw (fine, q))
+  pub not-rows : gap < 2 ^ 32 → (length l % COLUMNS ≡ 0 → ⊥) → Refused NotRows ≡ chainAnswer gap l
+  unfolding chainAnswer
+  not-rows h n = rw (lt-leb (2 ^ 32) gap h, ne-eqb (length l % COLUMNS) 0 n)
 
-    pub from-step : linked b (rowAt l k) ≡ true → v ≡ chainFrom gap (standing (rowAt l k)) (k + 1) (restAt l (k + 1))
-    from-step q = at-row ∙ rw (fine, q, standing-row (rowAt l k) (omega (arith, row-length l k h)))
+  module _ (h : gap < 2 ^ 32) (whole : length l % COLUMNS ≡ 0) where
+    pub checked : chainAnswer gap l ≡ chainFrom gap closed 0 (tableRows l)
+    unfolding chainAnswer
+    checked = rw (lt-leb (2 ^ 32) gap h, eq-eqb (length l % COLUMNS) 0 whole)
 
--- ---- at the list's end
-module _ (gap k : ℕ) (b : Before) (l : List ℕ) (v : ChainAnswer) (e : v ≡ chainFrom gap b k (restAt l k)) (h : length l / COLUMNS ≤ k) where
-  at-end : v ≡ cond (isUnended b) (NotEnded k) (Passed k)
-  unfolding chainFrom rowsFrom
-  at-end = let s : length l / COLUMNS - k ≡ 0 = omega arith in e ∙ rw s (ends b)
-    where
-      ends : (b : Before) → onEnd b k ≡ cond (isUnended b) (NotEnded k) (Passed k)
-      ends closed = refl
-      ends (unended previous) = refl
-      ends dead = refl
+    pub walk-start : Walk gap l [] 0
+    walk-start =
+        record {
+          within = omega arith;
+          stood = stood-none [] refl;
+          rest = checked ∙ rw (standing-none [] refl) (ap (chainFrom gap closed 0) (rest-all l whole));
+        }
 
-  pub from-unended : isUnended b ≡ true → NotEnded k ≡ v
-  from-unended q = sym (at-end ∙ rw q)
+module _ (gap : ℕ) (l previous : List ℕ) (k : ℕ) (walk : Walk gap l previous k) where
+  -- at a row
+  module _ (h : k < length l / COLUMNS) (row : List ℕ) (is : row ≡ rowAt l k) where
+    at-row : chainAnswer gap l
+        ≡ onFault (rowFault gap row) k
+        (cond (linked (standing previous) row) (chainFrom gap (before row) (k + 1) (restAt l (k + 1))) (Refused (LinkBroken k)))
+    unfolding chainFrom
+    at-row = walk .rest ∙ rw (is, listed-left (rowAt l) (length l / COLUMNS) k h)
 
-  pub from-end : isUnended b ≡ false → Passed k ≡ v
-  from-end q = sym (at-end ∙ rw q)
+    pub from-element : rowFault gap row ≡ NotElement → Refused (BadElement k) ≡ chainAnswer gap l
+    from-element q = sym (at-row ∙ rw q)
+
+    pub from-range : rowFault gap row ≡ OutOfRange → Refused (BadRange k) ≡ chainAnswer gap l
+    from-range q = sym (at-row ∙ rw q)
+
+    pub from-residue : (i : ℕ) → rowFault gap row ≡ NotZero i → Refused (BadResidue k i) ≡ chainAnswer gap l
+    from-residue i q = sym (at-row ∙ rw q)
+
+    module _ (fine : rowFault gap row ≡ Fine) where
+      pub from-broken : linked (standing previous) row ≡ false → Refused (LinkBroken k) ≡ chainAnswer gap l
+      from-broken q = sym (at-row ∙ rw (fine, q))
+
+      pub walk-on : gap < 2 ^ 32 → length row ≡ COLUMNS → linked (standing previous) row ≡ true → Walk gap l row (k + 1)
+      walk-on small wide q =
+          record {
+            within = omega arith;
+            stood = stood-row row wide (fits-of-fine gap small row wide fine);
+            rest = at-row ∙ rw (fine, q, standing-row row (omega arith));
+          }
+
+  -- at the list's end
+  module _ (h : length l / COLUMNS ≤ k) where
+    at-end : chainAnswer gap l ≡ cond (isUnended (standing previous)) (Refused (NotEnded k)) (Passed k)
+    unfolding chainFrom
+    at-end = walk .rest ∙ rw (listed-over (rowAt l) (length l / COLUMNS) k h) (ends (standing previous))
+      where
+        ends : (b : Before) → onEnd b k ≡ cond (isUnended b) (Refused (NotEnded k)) (Passed k)
+        ends closed = refl
+        ends (unended previous) = refl
+        ends dead = refl
+
+    pub from-unended : isUnended (standing previous) ≡ true → Refused (NotEnded k) ≡ chainAnswer gap l
+    from-unended q = sym (at-end ∙ rw q)
+
+    pub from-end : isUnended (standing previous) ≡ false → Passed k ≡ chainAnswer gap l
+    from-end q = sym (at-end ∙ rw q)

@@ -2,10 +2,10 @@
 -- FIRST 0, the timestamp, IS_SET and IS_WRITE of the row before, and SRC, DST, COUNT equal to that row's SRC_INCR, DST_INCR,
 -- COUNT_DECR. A dead row may follow only END, a dead row or nothing; a live row never follows a dead one." Assumes nothing.
 use Prim.Native.Nat.{ℕ}
-use mathlib.Core.Bool.{Bool, true, false, cond, _&&_}
+use mathlib.Core.Bool.{Bool, true, false, cond}
 use mathlib.Core.List.{List, [], _∷_}
 use lib.Dec.{eqb}
-use Rattle.lists.specs.Lists.{at}
+use Rattle.lists.specs.Lists.{at, same}
 use Rattle.copy_row.specs.Columns.{TIMESTAMP, SRC, SRC-INCR, DST, DST-INCR, COUNT, COUNT-DECR, FIRST, END, IS-SET, IS-WRITE, MU}
 use Rattle.copy_meaning.specs.ReadRow.{wordsAt, halvesAt}
 
@@ -14,13 +14,6 @@ pub data Before : Type 0 where
   closed : Before
   unended : List ℕ → Before
   dead : Before
-
--- whether two lists of numbers are the same
-unfoldable pub same : List ℕ → List ℕ → Bool
-same [] [] = true
-same [] (b ∷ ys) = false
-same (a ∷ xs) [] = false
-same (a ∷ xs) (b ∷ ys) = eqb a b && same xs ys
 
 -- what a row that goes on with a call shows, and what the row before hands on
 abbrev pub shown : List ℕ → List ℕ

@@ -5,7 +5,7 @@ use mathlib.Core.List.{List, [], _∷_}
 use Prim.Native.Nat.{ℕ, _<_}
 use lib.ListN.{length}
 use Rattle.copy_row.specs.Columns.{COLUMNS}
-use Rattle.plain_row.specs.Tests.{Fits}
+use Rattle.plain_row.specs.Tests.{Caps}
 use Rattle.chain.specs.Link.{Before, closed, unended, dead, before}
 
 -- what it is to the row after it
@@ -15,7 +15,7 @@ standing (x ∷ xs) = before (x ∷ xs)
 
 -- none, or a row whose columns lie below their caps
 unfoldable pub Stood : List ℕ → Type 0
-Stood previous = 0 < length previous → (length previous ≡ COLUMNS) × Fits previous
+Stood previous = 0 < length previous → (length previous ≡ COLUMNS) × Caps previous
 
 -- a live row without END
 abbrev pub isUnended : Before → Bool

@@ -2,14 +2,19 @@
 // 18". Assumes nothing.
 ghost use mathlib.Core.Path.{_≡_};
 ghost use Rattle.chain.specs.Chain.{chainAnswer};
+ghost use Rattle.chain.specs.declared.ChainAnswer.the-variants.{Refused};
 use crate::ChainAnswer;
+use crate::ChainRefusal;
 use crate::link::linked;
 use crate::link::unended;
 use copy_residues::parts::parts_of;
 use copy_residues::range::first_large;
 use copy_residues::range::first_out;
+use copy_residues::residues::NUM_RESIDUES;
 use copy_residues::residues::residue_with;
+use copy_row::cols::NUM_COLUMNS;
 use plain_row::row::is_plain;
+use records::tables::record_at;
 
 // "The check stops at the first row and, in it, the first check that fails": nested loops over rows and residues, left by a label with row
 // and index. "A row is a run of 41 numbers of the list": each row is a slice of its own. A row that is right on plain numbers has nothing
@@ -18,45 +23,52 @@ pub fn check(gap: u64, rows: &[u64]) -> ChainAnswer
     ensures { λ r. ⌜ r ≡ chainAnswer gap (now (rows .entry)) ⌝ }
 {
     if 0x1_0000_0000 <= gap {
-        return ChainAnswer::GapTooLarge;
+        return refused(ChainRefusal::GapTooLarge);
     }
-    if rows.len() % 41 != 0 {
-        return ChainAnswer::NotRows;
+    if rows.len() % NUM_COLUMNS != 0 {
+        return refused(ChainRefusal::NotRows);
     }
-    let n = rows.len() / 41;
+    let n = rows.len() / NUM_COLUMNS;
     let mut previous = &rows[0..0];
     let mut k: usize = 0;
     'rows: loop {
         if n <= k {
             if unended(previous) {
-                break 'rows ChainAnswer::NotEnded { rows: k as u64 };
+                break 'rows refused(ChainRefusal::NotEnded { rows: k as u64 });
             }
             break 'rows ChainAnswer::Passed { rows: k as u64 };
         }
-        let row = &rows[41 * k..41 * k + 41];
+        let row = record_at(rows, NUM_COLUMNS, k);
         if !is_plain(gap, row) {
-            if first_large(row) < 41 {
-                break 'rows ChainAnswer::BadElement { row: k as u64 };
+            if first_large(row) < NUM_COLUMNS {
+                break 'rows refused(ChainRefusal::BadElement { row: k as u64 });
             }
-            if first_out(row) < 41 {
-                break 'rows ChainAnswer::BadRange { row: k as u64 };
+            if first_out(row) < NUM_COLUMNS {
+                break 'rows refused(ChainRefusal::BadRange { row: k as u64 });
             }
             let parts = parts_of(gap, row);
             let mut i: u64 = 0;
-            while i < 40 {
+            while i < NUM_RESIDUES {
                 if residue_with(row, parts, i) != 0 {
-                    break 'rows ChainAnswer::BadResidue {
+                    break 'rows refused(ChainRefusal::BadResidue {
                         row: k as u64,
                         index: i,
-                    };
+                    });
                 }
                 i += 1;
             }
         }
         if !linked(previous, row) {
-            break 'rows ChainAnswer::LinkBroken { row: k as u64 };
+            break 'rows refused(ChainRefusal::LinkBroken { row: k as u64 });
         }
         previous = row;
         k += 1;
     }
+}
+
+// The answer that hands on a refusal.
+fn refused(why: ChainRefusal) -> ChainAnswer
+    ensures { λ r. ⌜ r ≡ Refused why ⌝ }
+{
+    ChainAnswer::Refused { why }
 }

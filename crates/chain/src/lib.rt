@@ -7,10 +7,10 @@ use answer::Answer;
 use answer::accept;
 use answer::refuse;
 ghost use mathlib.Core.Path.{_≡_};
-ghost use Rattle.chain.specs.Chain.{chainAnswer, chainNumbers};
+ghost use Rattle.chain.specs.Chain.{chainAnswer, refusalNumbers, chainNumbers};
 
-pub enum ChainAnswer {
-    Passed { rows: u64 },
+// Why a row list is refused. Whoever checks the chain first hands this on as it is.
+pub enum ChainRefusal {
     // 7: the gap is 2^32 or more
     GapTooLarge,
     // 13: the list is not a multiple of 41
@@ -27,6 +27,11 @@ pub enum ChainAnswer {
     NotEnded { rows: u64 },
 }
 
+pub enum ChainAnswer {
+    Passed { rows: u64 },
+    Refused { why: ChainRefusal },
+}
+
 // Checks a list of rows of 41 numbers under a gap: how many rows it has, or the first check that fails.
 pub fn chain_check(gap: u64, rows: &[u64]) -> ChainAnswer
     ensures answer { λ r. ⌜ chainNumbers r ≡ chainNumbers (chainAnswer gap (now (rows .entry))) ⌝ }
@@ -34,22 +39,31 @@ pub fn chain_check(gap: u64, rows: &[u64]) -> ChainAnswer
     check::check(gap, rows)
 }
 
-// Document 01's number, place and value of an answer; 16 has the residue's index for its value.
+// Document 01's number, place and value of a refusal; 16 has the residue's index for its value.
+pub fn refusal_numbers(why: ChainRefusal) -> Answer
+    ensures { λ r. ⌜ r ≡ refusalNumbers why ⌝ }
+{
+    match why {
+        ChainRefusal::GapTooLarge => refuse(7, 0),
+        ChainRefusal::NotRows => refuse(13, 0),
+        ChainRefusal::BadElement { row } => refuse(14, row),
+        ChainRefusal::BadRange { row } => refuse(15, row),
+        ChainRefusal::BadResidue { row, index } => Answer {
+            number: 16,
+            place: row,
+            value: index,
+        },
+        ChainRefusal::LinkBroken { row } => refuse(17, row),
+        ChainRefusal::NotEnded { rows } => refuse(18, rows),
+    }
+}
+
+// The same of an answer; the value is the number of rows where nothing is refused.
 pub fn chain_numbers(a: ChainAnswer) -> Answer
     ensures { λ r. ⌜ r ≡ chainNumbers a ⌝ }
 {
     match a {
         ChainAnswer::Passed { rows } => accept(rows),
-        ChainAnswer::GapTooLarge => refuse(7, 0),
-        ChainAnswer::NotRows => refuse(13, 0),
-        ChainAnswer::BadElement { row } => refuse(14, row),
-        ChainAnswer::BadRange { row } => refuse(15, row),
-        ChainAnswer::BadResidue { row, index } => Answer {
-            number: 16,
-            place: row,
-            value: index,
-        },
-        ChainAnswer::LinkBroken { row } => refuse(17, row),
-        ChainAnswer::NotEnded { rows } => refuse(18, rows),
+        ChainAnswer::Refused { why } => refusal_numbers(why),
     }
 }

@@ -5,10 +5,11 @@ ghost use mathlib.Core.Path.{_≡_};
 ghost use Prim.Native.Nat.{_+_, _<_};
 ghost use lib.Dec.{eqb};
 ghost use lib.ListN.{length};
+ghost use Rattle.lists.specs.Lists.{same};
 ghost use Rattle.copy_row.specs.Columns.{TIMESTAMP, COLUMNS};
 ghost use Rattle.copy_meaning.specs.ReadRow.{TwoWords, FourHalves, wordsAt, halvesAt};
-ghost use Rattle.plain_row.specs.Tests.{Fits};
-ghost use Rattle.chain.specs.Link.{closed, linked, same, shown, handedOn};
+ghost use Rattle.plain_row.specs.Tests.{Caps};
+ghost use Rattle.chain.specs.Link.{closed, linked, shown, handedOn};
 ghost use Rattle.chain.specs.Standing.{standing, Stood, isUnended};
 use copy_row::cols;
 use plain_row::row::halves_at;
@@ -25,7 +26,7 @@ fn moved(previous: &[u64], row: &[u64], c: usize, h: usize) -> bool
 
 fn same_stamp(previous: &[u64], row: &[u64]) -> bool
     requires { ⌜ (length (now previous) ≡ COLUMNS) × (length (now row) ≡ COLUMNS) ⌝ }
-    requires { ⌜ Fits (now previous) × Fits (now row) ⌝ }
+    requires { ⌜ Caps (now previous) × Caps (now row) ⌝ }
     ensures { λ r. ⌜ r ≡ eqb (wordsAt (now (row .entry)) TIMESTAMP) (wordsAt (now (previous .entry)) TIMESTAMP) ⌝ }
 {
     words_at(row, cols::TIMESTAMP_0) == words_at(previous, cols::TIMESTAMP_0)
@@ -34,7 +35,7 @@ fn same_stamp(previous: &[u64], row: &[u64]) -> bool
 // The row goes on with the call of the row before.
 fn goes_on(previous: &[u64], row: &[u64]) -> bool
     requires { ⌜ (length (now previous) ≡ COLUMNS) × (length (now row) ≡ COLUMNS) ⌝ }
-    requires { ⌜ Fits (now previous) × Fits (now row) ⌝ }
+    requires { ⌜ Caps (now previous) × Caps (now row) ⌝ }
     ensures { λ r. ⌜ r ≡ same (shown (now (row .entry))) (handedOn (now (previous .entry))) ⌝ }
 {
     (row[cols::FIRST] == 0)
@@ -56,7 +57,7 @@ fn may_open(row: &[u64]) -> bool
 
 // "A dead row may follow only END, a dead row or nothing; a live row never follows a dead one."
 pub fn linked(previous: &[u64], row: &[u64]) -> bool
-    requires { ⌜ (length (now row) ≡ COLUMNS) × Fits (now row) ⌝ }
+    requires { ⌜ (length (now row) ≡ COLUMNS) × Caps (now row) ⌝ }
     requires { ⌜ Stood (now previous) ⌝ }
     ensures { λ r. ⌜ r ≡ linked (standing (now (previous .entry))) (now (row .entry)) ⌝ }
 {

@@ -6,3 +6,4 @@ pub mod ResidueAnswers
 pub mod Examples
 pub mod Gate
 pub mod CountBorrow
+pub mod Computing

@@ -19,8 +19,9 @@ use Rattle.copy_meaning.specs.ReadRow.{wordsAt, halvesAt, callAt, opAt}
 use Rattle.copy_meaning.specs.RowIff.{CallRow}
 use Rattle.copy_meaning.proofs.ReadBack.{call-back, src-incr-back}
 use Rattle.calls.specs.OpChain.{group}
-use Rattle.chain.specs.Chain.{rowsOf}
-use Rattle.demand.specs.Demand.{liveRows, Each, WholeCalls, AnyPiece, AnyCall}
+use Rattle.chain.specs.Chain.{tableRows}
+use Rattle.read_back.specs.ReadBack.{liveRows}
+use Rattle.demand.specs.Demand.{Each, WholeCalls, AnyPiece, AnyCall}
 use Rattle.demand.proofs.MadeRows.{src-modulo, row-marks}
 use Rattle.demand.proofs.Whole.{rows-are}
 
@@ -94,10 +95,10 @@ map-read [] = refl
 map-read (o ∷ os) = ap (λ t. readRow o ∷ t) (map-read os)
 
 pub alone : (gap : ℕ) (l : List ℕ) (ks : List CutCall) → WholeCalls gap l ks → (js : List CutCall) → All AnyCall js
-    → Each (CallRow gap) (opsOf js) (liveRows (rowsOf l)) → js ≡ ks
+    → Each (CallRow gap) (opsOf js) (liveRows (tableRows l)) → js ≡ ks
 alone gap l ks w js any each =
     let same : map tableRow (opsOf js) ≡ map tableRow (opsOf ks) =
-    sym (rows-are gap (opsOf js) (liveRows (rowsOf l)) each) ∙ rows-are gap (opsOf ks) (liveRows (rowsOf l)) (w .live) in
+    sym (rows-are gap (opsOf js) (liveRows (tableRows l)) each) ∙ rows-are gap (opsOf ks) (liveRows (tableRows l)) (w .live) in
     sym (group-rows js any)
     ∙ ap group (sym (map-read (opsOf js)) ∙ ap (map anyAt) same ∙ map-read (opsOf ks))
     ∙ group-rows ks (any-calls gap ks (w .sound))

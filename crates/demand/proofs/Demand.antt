@@ -1,11 +1,8 @@
 -- Demand 3 holds. Assumes nothing.
-use mathlib.Core.Path.{_≡_, refl, sym, subst₂}
-use mathlib.Core.Bool.{Bool, true, false, cond}
+use mathlib.Core.Path.{_≡_, sym, subst₂}
 use mathlib.Core.List.{List, map, flatMap}
 use Prim.Native.Nat.{ℕ, _*_, _/_, _^_, _≤_, _<_}
-use native.Mathlib.Omega.{arith}
-use borrow.Author.Tests.{leb-false}
-use lib.Dec.{leb, lit≤}
+use lib.Dec.{lit≤}
 use lib.ListN.{length, take}
 use Rattle.lists.specs.Lists.{All}
 use Rattle.records.specs.Records.{LIMIT}
@@ -14,13 +11,12 @@ use Rattle.call.specs.Ops.{opRecord}
 use Rattle.call.specs.Flat.{callNumbers}
 use Rattle.call.specs.Cuts.{CutCall, opsOf, Fits, callsOf}
 use Rattle.expansion.specs.Tries.{Try, Typed, under}
+use Rattle.calls_in_turn.specs.Accepted.{acceptedOps, acceptedCalls, acceptedOf}
 use Rattle.copy_row.specs.Columns.{COLUMNS}
 use Rattle.copy_row.specs.Trace.{copyAnswer, copyAfter}
 use Rattle.chain.specs.Chain.{chainAnswer}
-use Rattle.chain.specs.declared.ChainAnswer.{ChainAnswer}
-use Rattle.chain.specs.declared.ChainAnswer.the-variants.{Passed, GapTooLarge}
-use Rattle.read_back.proofs.Passed.{Accepted}
-use Rattle.calls_in_turn.specs.Accepted.{acceptedOps, acceptedCalls, acceptedOf}
+use Rattle.chain.specs.declared.ChainAnswer.the-variants.{Passed}
+use Rattle.chain.proofs.Passed.{passing}
 use Rattle.demand.specs.Demand.{Passes, ReadsBack, Demand3}
 use Rattle.demand.proofs.Whole.{passes-calls, calls-pass, calls-passes}
 use Rattle.demand.proofs.ReadBack.{reads-back, only-nine}
@@ -28,18 +24,9 @@ use Rattle.demand.proofs.Alone.{alone}
 use Rattle.demand.proofs.Made.{written-calls}
 use Rattle.demand.proofs.Accepted.{cutTry, tries-fit, tries-wrote, tries-handed}
 
--- no list passes under a gap of 2^32 or more
-gap-below : (gap : ℕ) (l : List ℕ) → Passes gap l → gap < 2 ^ 32
-unfolding chainAnswer
-gap-below gap l e = go (leb (2 ^ 32) gap) _ refl e
-  where
-    go : (t : Bool) (v : ChainAnswer) → leb (2 ^ 32) gap ≡ t → Accepted (cond t GapTooLarge v) → gap < 2 ^ 32
-    go true v h e = absurd (omega arith)
-    go false v h e = leb-false (2 ^ 32) gap h
-
 counts : (gap : ℕ) (l : List ℕ) → Passes gap l → chainAnswer gap l ≡ Passed (length l / COLUMNS)
 counts gap l e =
-    let g = gap-below gap l e in
+    let g = passing gap l e .small in
     let w = passes-calls gap g l e in
     calls-pass gap g l (w .0) (w .1)
 

@@ -1,24 +1,22 @@
 -- The copy table's maker finds nothing wrong in the operation records of live steps, so it refuses a list of them with nothing but the
 -- limit on records and 9. Assumes nothing.
-use mathlib.Core.Path.{_≡_, sym, ap, _∙_}
+use mathlib.Core.Path.{_≡_, sym, subst}
 use mathlib.Core.Bool.{true, cond}
-use mathlib.Core.List.{List, [], _∷_, _++_, flatMap}
+use mathlib.Core.List.{List, [], _∷_, flatMap, map}
 use mathlib.Core.Logic.{inl, inr}
-use Prim.Native.Nat.{ℕ, zero, suc, _+_, _*_, _<_}
-use native.Mathlib.Nat.{mul-suc}
+use Prim.Native.Nat.{ℕ, _*_, _<_}
 use native.Mathlib.Omega.{arith}
 use borrow.Author.Tests.{le-ltb}
 use lib.Dec.{ltb, leb}
-use lib.ListN.{length, take, drop}
-use lib.Seq.{take-at, drop-at, drop-drop}
+use lib.ListN.{length}
 use Rattle.lists.specs.Lists.{All}
-use Rattle.lists.proofs.Joined.{flatMap-length}
 use Rattle.words.proofs.Digits.{Below}
-use Rattle.records.specs.Records.{recordCount, recordAt}
+use Rattle.records.specs.Records.{recordCount, firstBad}
 use Rattle.records.specs.RowCount.{rowCount}
 use Rattle.records.specs.Table.{tableAnswer}
 use Rattle.records.specs.declared.TableAnswer.the-variants.{Made, TooManyRecords, BufferShort}
-use Rattle.records.proofs.Records.{record-count, none-bad}
+use Rattle.records.proofs.Records.{none-bad}
+use Rattle.records.proofs.RecordList.{joined-count, records-joined, each-record}
 use Rattle.call.specs.Calls.{Op}
 use Rattle.call.specs.Ops.{opRecord, OP-WIDTH, goodOp}
 use Rattle.call.proofs.Ops.{op-record-length, OpWithin, within-good}
@@ -48,16 +46,7 @@ step-within gap o s =
       end = elim (s .move) [ empty c first end ↦ omega arith | ends end c src dst ↦ omega arith | more end c src dst ↦ omega arith ];
     }
 
--- Record k of the records joined
-
--- with one more record in front, each stands one later
-pub record-shift : (w : ℕ) (r l : List ℕ) (k : ℕ) → length r ≡ w → recordAt w (r ++ l) (suc k) ≡ recordAt w l k
-record-shift w r l k wide =
-    ap (take w)
-    (ap (λ n. drop n (r ++ l)) (place w k) ∙ sym (drop-drop (w * k) w (r ++ l)) ∙ ap (drop (w * k)) (drop-at r l w wide))
-  where
-    place : (w k : ℕ) → w * suc k ≡ w + w * k
-    place w k = omega (arith, mul-suc w k)
+-- The records joined
 
 module _ (gap : ℕ) where
   pub records-wide : (os : List Op) → All (LiveStep gap) os → All (λ (o : Op). length (opRecord o) ≡ OP-WIDTH) os
@@ -66,16 +55,17 @@ module _ (gap : ℕ) where
 
   -- how many records
   pub records-count : (os : List Op) → All (LiveStep gap) os → recordCount OP-WIDTH (flatMap opRecord os) ≡ length os
-  records-count os s =
-      record-count OP-WIDTH (length os) (flatMap opRecord os) (omega arith) (flatMap-length OP-WIDTH opRecord os (records-wide os s))
+  records-count os s = joined-count OP-WIDTH (omega arith) opRecord os (records-wide os s)
 
-  each-good : (os : List Op) → All (LiveStep gap) os → (k : ℕ) → k < length os → goodOp (recordAt OP-WIDTH (flatMap opRecord os) k) ≡ true
-  unfolding flatMap
-  each-good [] s k h = absurd (omega arith)
-  each-good (o ∷ os) s zero h =
-      ap goodOp (take-at (opRecord o) (flatMap opRecord os) OP-WIDTH (records-wide (o ∷ os) s .0)) ∙ within-good o (step-within gap o (s .0))
-  each-good (o ∷ os) s (suc k) h =
-      ap goodOp (record-shift OP-WIDTH (opRecord o) (flatMap opRecord os) k (records-wide (o ∷ os) s .0)) ∙ each-good os (s .1) k (omega arith)
+  all-good-records : (os : List Op) → All (LiveStep gap) os → All (λ (r : List ℕ). goodOp r ≡ true) (map opRecord os)
+  all-good-records [] s = tt
+  all-good-records (o ∷ os) s = (within-good o (step-within gap o (s .0)), all-good-records os (s .1))
+
+  none-refused : (os : List Op) → All (LiveStep gap) os → firstBad OP-WIDTH goodOp (flatMap opRecord os) ≡ recordCount OP-WIDTH (flatMap opRecord os)
+  none-refused os s =
+      let joined = records-joined OP-WIDTH (omega arith) opRecord os (records-wide os s) in
+      let all = subst (All (λ (r : List ℕ). goodOp r ≡ true)) (sym joined) (all-good-records os s) in
+      none-bad OP-WIDTH goodOp (flatMap opRecord os) (each-record OP-WIDTH (λ (r : List ℕ). goodOp r ≡ true) (flatMap opRecord os) all)
 
   -- what the maker answers: too many, or a table too short, or as many rows as there should be
   pub maker-answer : (limit room : ℕ) (os : List Op) → All (LiveStep gap) os
@@ -84,5 +74,4 @@ module _ (gap : ℕ) where
   unfolding copyAnswer tableAnswer
   maker-answer limit room os s =
       let n = records-count os s in
-      let none = none-bad OP-WIDTH goodOp (flatMap opRecord os) (λ k h. each-good os s k (omega arith)) in
-      rw (none, n, le-ltb (length os) (length os) (omega arith))
+      rw (none-refused os s, n, le-ltb (length os) (length os) (omega arith))

@@ -1,36 +1,18 @@
 -- The instances hold, by computing. Assumes nothing.
 use mathlib.Core.Path.{refl}
-use mathlib.Core.List.{[], _∷_, flatMap}
+use mathlib.Core.List.{[], _∷_}
 use mathlib.Core.Logic.{inl, inr}
 use Prim.Native.Nat.{ℕ, zero, suc, _≤_, _<_}
 use native.Mathlib.Omega.{arith}
 use lib.ListN.{replicate}
-use Rattle.lists.specs.Lists.{store, flat, picked, counted, first, All}
-use Rattle.field.specs.Field.{addP, subP, mulP, bitP}
-use Rattle.field.specs.Carries.{carryP, carryLow, carryHigh}
-use Rattle.records.specs.Records.{firstAbove, within, firstBad}
-use Rattle.records.specs.RowCount.{doubled, rowCount}
-use Rattle.records.specs.Table.{tableAnswer, rowAt, tableAfter}
-use Rattle.call.specs.Ops.{opLimits}
+use Rattle.lists.specs.Lists.{All}
 use Rattle.call.specs.Cuts.{PieceOk, Fits, Words}
 use Rattle.call.specs.Instances.{wide, narrow}
-use Rattle.window.specs.Window.{cellsAt, writeBytes}
-use Rattle.expansion_rows.specs.Rows as call
-use Rattle.expansion_rows.specs.Rows.{copyRowWidth, rowsWithin}
-use Rattle.expansion_rows.specs.Turns.{turnBytes, rowOps}
 use Rattle.expansion_rows.specs.Inside.{Bytes}
 use Rattle.expansion.specs.Tries.{Typed}
-use Rattle.expansion.specs.Refusals.{refusals, answerBy}
-use Rattle.expansion.specs.Expansion.{callOps, expanded, lentAfter}
-use Rattle.copy_row.specs.Rows.{rowOf, paddingRow}
-use Rattle.copy_row.specs.Trace.{copyAnswer, copyAfter}
-use Rattle.copy_residues.specs.Range.{columnLimits, firstLarge, firstOut}
-use Rattle.copy_residues.specs.Residues.{halvesWord, step, incrLow, incrHigh, decrLow, decrHigh, resLow, resHigh, gapLow, gapHigh, borrow, impliesMu, oneHot, firstWrite, gatedBit, dstResNonWrite, singleLane, borrowImplies, borrowImpliesZero, endImplies, muComIs, muComWideIs, noWrap, gapNoWrap, residue}
-use Rattle.copy_residues.specs.RowCheck.{firstResidue, rowFault}
 use Rattle.copy_meaning.proofs.Check.{fine-passing}
-use Rattle.chain.specs.Link.{same, linked, before}
-use Rattle.chain.specs.Chain.{rowsFrom, chainFrom, chainAnswer}
-use Rattle.read_back.specs.ReadBack.{opsCount, callsCount, readOps, readCalls, roomAnswer, readBackAnswer}
+use Rattle.read_back.proofs.Computing as judged
+use Rattle.calls_in_turn.proofs.Computing as made
 use Rattle.demand.specs.Demand.{DeadRow, WholeCalls, AnyCall}
 use Rattle.demand.specs.Instances.{threeKinds, deadRow, rows, unsound, tries, Instances}
 use Rattle.demand.proofs.Whole.{whole-calls}
@@ -74,15 +56,13 @@ unsound-any =
     }
 
 dead-row : DeadRow 8 deadRow
-unfolding paddingRow addP subP mulP bitP carryP carryLow carryHigh first columnLimits firstLarge firstOut halvesWord step incrLow incrHigh decrLow
-    decrHigh resLow resHigh gapLow gapHigh borrow impliesMu oneHot firstWrite gatedBit dstResNonWrite singleLane borrowImplies
-    borrowImpliesZero endImplies muComIs muComWideIs noWrap gapNoWrap residue firstResidue rowFault
+unfolding judged.computing
 dead-row =
     let q = fine-passing 8 deadRow refl in
     record { dead = refl; range = q .range; zeroes = q .zeroes }
 
 rows-whole : WholeCalls 8 rows threeKinds
-unfolding paddingRow flatMap rowOf rowsFrom
+unfolding judged.computing
 rows-whole = whole-calls 8 (omega arith) rows refl threeKinds three-fit (deadRow ∷ []) (dead-row, tt) refl
 
 bytes-same : (n b : ℕ) → b < 256 → Bytes (replicate n b)
@@ -108,12 +88,7 @@ tries-typed = (
 )
 
 pub instances : Instances
-unfolding flatMap addP subP mulP bitP carryP carryLow carryHigh store flat picked counted first firstAbove within firstBad doubled rowCount
-    tableAnswer rowAt tableAfter rowOf paddingRow opLimits copyAnswer copyAfter columnLimits firstLarge firstOut halvesWord step incrLow
-    incrHigh decrLow decrHigh resLow resHigh gapLow gapHigh borrow impliesMu oneHot firstWrite gatedBit dstResNonWrite singleLane
-    borrowImplies borrowImpliesZero endImplies muComIs muComWideIs noWrap gapNoWrap residue firstResidue rowFault same linked before
-    rowsFrom chainFrom chainAnswer opsCount callsCount readOps readCalls roomAnswer readBackAnswer cellsAt writeBytes copyRowWidth rowsWithin
-    call.rowsFrom turnBytes rowOps refusals answerBy callOps expanded lentAfter
+unfolding judged.computing made.computing
 instances =
     record {
       passes = refl;

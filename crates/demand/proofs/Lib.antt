@@ -1,6 +1,5 @@
 pub mod MadeRows
 pub mod Verdict
-pub mod RowLists
 pub mod Whole
 pub mod ReadBack
 pub mod Alone

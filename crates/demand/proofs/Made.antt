@@ -4,18 +4,22 @@ use mathlib.Core.Path.{_≡_, refl, ap, ap₂, _∙_}
 use mathlib.Core.Bool.{Bool, cond}
 use mathlib.Core.List.{List, [], _∷_, _++_, map, flatMap}
 use mathlib.Core.Option.{none}
-use Prim.Native.Nat.{ℕ, zero, suc, _-_, _*_, _/_, _^_, _≤_, _<_}
+use Prim.Native.Nat.{ℕ, zero, suc, _-_, _*_, _^_, _≤_, _<_, _+_}
 use native.Mathlib.Omega.{arith}
 use lib.Dec.{ltb, leb·suc-suc}
 use lib.ListN.{length, take, replicate, length-append}
 use lib.Seq.{take-at, length-take-le}
-use Rattle.lists.specs.Lists.{All}
+use Rattle.lists.specs.Lists.{All, listed}
+use Rattle.lists.proofs.Store.{run-taken}
 use Rattle.lists.proofs.Flat.{row-within}
-use Rattle.records.specs.Records.{recordCount, recordAt, firstBad}
+use Rattle.lists.proofs.Listed.{listed-same}
+use Rattle.records.specs.Records.{recordCount, recordAt, firstBad, recordsIn}
 use Rattle.records.specs.Table.{rowAt}
 use Rattle.records.specs.declared.TableAnswer.the-variants.{Made}
+use Rattle.records.proofs.Records.{record-count}
 use Rattle.records.proofs.RowCount.{row-count-covers}
 use Rattle.records.proofs.Table.{MadeFacts}
+use Rattle.records.proofs.RecordList.{record-shift, count-shift}
 use Rattle.call.specs.Calls.{Op}
 use Rattle.call.specs.Ops.{opRecord, OP-WIDTH, goodOp}
 use Rattle.call.specs.Cuts.{CutCall, opsOf, Fits}
@@ -28,11 +32,10 @@ use Rattle.copy_meaning.specs.Steps.{LiveStep}
 use Rattle.copy_meaning.proofs.RowIff.{padding-passes}
 use Rattle.copy_meaning.proofs.Check.{fine-passing}
 use Rattle.calls.proofs.Chained.{chain}
-use Rattle.chain.specs.Chain.{rowsFrom, rowsOf}
+use Rattle.chain.specs.Chain.{tableRows}
 use Rattle.demand.specs.Demand.{DeadRow, WholeCalls}
-use Rattle.demand.proofs.RowLists.{listed, listed-same, run-taken, rows-listed}
 use Rattle.demand.proofs.Whole.{steps, whole-calls}
-use Rattle.demand.proofs.GoodRecords.{record-shift, records-wide, records-count}
+use Rattle.demand.proofs.GoodRecords.{records-wide, records-count}
 
 -- Rows of the table
 
@@ -40,21 +43,17 @@ use Rattle.demand.proofs.GoodRecords.{record-shift, records-wide, recor
 row-shift : (r l : List ℕ) (k : ℕ) → length r ≡ OP-WIDTH → copyRowAt (r ++ l) (suc k) ≡ copyRowAt l k
 unfolding rowAt
 row-shift r l k wide =
-    let count : recordCount OP-WIDTH (r ++ l) ≡ suc (recordCount OP-WIDTH l) = omega (arith, length-append r l) in
+    let count = count-shift OP-WIDTH r l (omega arith) wide in
     ap₂
     (λ (t : Bool) (x : List ℕ). cond t (copyRow x) paddingRow)
     (ap (ltb (suc k)) count ∙ leb·suc-suc (suc k) (recordCount OP-WIDTH l))
     (record-shift OP-WIDTH r l k wide)
 
 -- no record at all
-listed-padding : (rows : ℕ) → listed (copyRowAt []) rows ≡ replicate rows paddingRow
+listed-padding : (rows k : ℕ) → listed (copyRowAt []) k rows ≡ replicate rows paddingRow
 unfolding listed
-listed-padding rows =
-    listed-same (copyRowAt []) (λ k. paddingRow) rows (λ k h. row-of-none [] k (omega arith)) ∙ go rows
-  where
-    go : (n : ℕ) → listed (λ k. paddingRow) n ≡ replicate n paddingRow
-    go zero = refl
-    go (suc n) = ap (λ t. paddingRow ∷ t) (go n)
+listed-padding zero k = refl
+listed-padding (suc rows) k = λ i. row-of-none [] k (omega arith) i ∷ listed-padding rows (k + 1) i
 
 module _ (gap : ℕ) where
   -- the row of the first record
@@ -66,17 +65,25 @@ module _ (gap : ℕ) where
 
   -- the rows of the records, then padding
   listed-rows : (os : List Op) (rows : ℕ) → All (LiveStep gap) os → length os ≤ rows
-      → listed (copyRowAt (flatMap opRecord os)) rows ≡ map tableRow os ++ replicate (rows - length os) paddingRow
+      → listed (copyRowAt (flatMap opRecord os)) 0 rows ≡ map tableRow os ++ replicate (rows - length os) paddingRow
   unfolding listed flatMap
-  listed-rows [] rows s h = let all : rows ≡ rows - 0 = omega arith in listed-padding rows ∙ ap (λ n. replicate n paddingRow) all
+  listed-rows [] rows s h = let all : rows ≡ rows - 0 = omega arith in listed-padding rows 0 ∙ ap (λ n. replicate n paddingRow) all
   listed-rows (o ∷ os) zero s h = absurd (omega arith)
   listed-rows (o ∷ os) (suc rows) s h =
       let wide = records-wide gap (o ∷ os) s .0 in
       let head = head-row o (flatMap opRecord os) (s .0) wide in
       let tail =
-      listed-same _ _ rows (λ k _. row-shift (opRecord o) (flatMap opRecord os) k wide) ∙ listed-rows os rows (s .1) (omega arith) in
+      listed-same (copyRowAt (opRecord o ++ flatMap opRecord os)) (copyRowAt (flatMap opRecord os)) 1 0 rows
+      (λ k _. ap (copyRowAt (opRecord o ++ flatMap opRecord os)) (one k) ∙ row-shift (opRecord o) (flatMap opRecord os) k wide ∙ ap (copyRowAt (flatMap opRecord os)) (none k))
+      ∙ listed-rows os rows (s .1) (omega arith) in
       let left : rows - length os ≡ suc rows - length (o ∷ os) = omega arith in
       (λ i. head i ∷ tail i) ∙ ap (λ n. tableRow o ∷ map tableRow os ++ replicate n paddingRow) left
+    where
+      one : (k : ℕ) → 1 + k ≡ suc k
+      one k = omega arith
+
+      none : (k : ℕ) → k ≡ 0 + k
+      none k = omega arith
 
 -- Padding
 
@@ -116,12 +123,11 @@ module _ (gap limit : ℕ) (small : limit ≤ 2 ^ 63) (ks : List CutCall) (fits 
       run-taken COLUMNS (COLUMNS * k) (COLUMNS * rows) (copyAfter records (Made rows) table) (row-within COLUMNS k rows h)
       ∙ made-row records table rows k (facts .fits) h
 
-  written-rows : rowsOf written ≡ map tableRow (opsOf ks) ++ replicate (rows - length (opsOf ks)) paddingRow
+  written-rows : tableRows written ≡ map tableRow (opsOf ks) ++ replicate (rows - length (opsOf ks)) paddingRow
+  unfolding recordsIn
   written-rows =
-      let e : length written / COLUMNS ≡ rows = omega (arith, written-length) in
-      ap (λ n. rowsFrom n written) e
-      ∙ rows-listed rows written
-      ∙ listed-same (recordAt COLUMNS written) (copyRowAt records) rows written-row
+      ap (listed (recordAt COLUMNS written) 0) (record-count COLUMNS rows written (omega arith) written-length)
+      ∙ listed-same (recordAt COLUMNS written) (copyRowAt records) 0 0 rows (λ k h. written-row (0 + k) (omega arith))
       ∙ listed-rows gap (opsOf ks) rows live covers
 
   -- the rows written are those of these calls, then padding

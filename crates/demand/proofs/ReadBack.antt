@@ -1,24 +1,22 @@
 -- Read-back of a list of whole calls: each live row gives the record that it was made of, and each row with FIRST the call as it was
 -- handed in. Assumes nothing.
 use mathlib.Core.Path.{_≡_, refl, sym, ap, ap₂, _∙_}
-use mathlib.Core.Bool.{Bool, true, false, cond, _&&_, and-false}
-use mathlib.Core.List.{List, [], _∷_, _++_, map, append-nil, flatMap}
+use mathlib.Core.Bool.{Bool, true, false, cond, _&&_, and-false, false≢true}
+use mathlib.Core.List.{List, [], _∷_, _++_, map, flatMap}
 use mathlib.Core.Logic.{_⊎_, inl, inr}
 use mathlib.Core.Option.{none}
 use Prim.Native.Nat.{ℕ, zero, suc, _*_, _/_, _^_, _≤_, _<_}
 use native.Mathlib.Omega.{arith}
-use borrow.Author.Tests.{le-leb, lt-leb}
+use borrow.Author.Tests.{le-leb, lt-leb, eq-eqb}
 use lib.Dec.{eqb, leb}
 use lib.ListN.{length}
-use Rattle.lists.specs.Lists.{store, at, All}
-use Rattle.lists.proofs.Joined.{flatMap-append}
-use Rattle.lists.proofs.Flat.{picked-length}
+use Rattle.lists.specs.Lists.{store, All, kept}
+use Rattle.lists.proofs.Joined.{flatMap-length, all-of}
 use Rattle.call.specs.Calls.{Call, Op}
 use Rattle.call.specs.Ops.{opRecord, OP-WIDTH}
 use Rattle.call.specs.Flat.{CALL-WIDTH, callNumbers}
 use Rattle.call.specs.Cuts.{CutCall, opsOf, callsOf}
 use Rattle.call.proofs.Cuts.{all-have-rows}
-use Rattle.copy_row.specs.Columns.{FIRST, MU}
 use Rattle.copy_row.specs.Rows.{tableRow}
 use Rattle.copy_meaning.specs.Steps.{LiveStep}
 use Rattle.copy_meaning.specs.ReadRow.{callAt, opAt}
@@ -26,59 +24,40 @@ use Rattle.copy_meaning.proofs.ReadBack.{call-back, op-back}
 use Rattle.calls.specs.OpChain.{ifFirst, firsts}
 use Rattle.calls.proofs.Chained.{chain}
 use Rattle.calls.proofs.Group.{firsts-are}
-use Rattle.chain.specs.Chain.{chainAnswer, chainNumbers}
+use Rattle.chain.specs.Chain.{chainAnswer, chainNumbers, tableRows}
 use Rattle.chain.specs.declared.ChainAnswer.{ChainAnswer}
-use Rattle.chain.specs.declared.ChainAnswer.the-variants.{Passed, GapTooLarge, NotRows, BadElement, BadRange, BadResidue, LinkBroken, NotEnded}
-use Rattle.read_back.specs.ReadBack.{rowAt, rowsIn, liveAt, opensAt, opsCount, callsCount, readOps, readCalls, roomAnswer, onChain, readBackAnswer, opsAfter, callsAfter, readBackNumbers}
+use Rattle.chain.specs.declared.ChainAnswer.the-variants.{Passed, Refused}
+use Rattle.chain.proofs.Passed.{refusal-numbered}
+use Rattle.read_back.specs.ReadBack.{readOps, readCalls, roomAnswer, onChain, readBackAnswer, opsAfter, callsAfter, readBackNumbers, openingRows, liveRows}
 use Rattle.read_back.specs.declared.ReadBackAnswer.the-variants.{Read, BufferShort}
 use Rattle.demand.specs.Demand.{Passes, WholeCalls, ReadsBack}
 use Rattle.demand.proofs.MadeRows.{row-mu, row-marks}
-use Rattle.demand.proofs.RowLists.{picked-rows}
-use Rattle.demand.proofs.Whole.{steps, Still, all-still, calls-rows, calls-pass}
+use Rattle.demand.proofs.Whole.{steps, Still, all-still, calls-rows, calls-pass, live-rows}
 
--- what one row gives
-abbrev opPart : List ℕ → List ℕ
-opPart row = cond (eqb (at row MU) 1) (opRecord (opAt row)) []
-
-abbrev callPart : List ℕ → List ℕ
-callPart row = cond (eqb (at row MU) 1 && eqb (at row FIRST) 1) (callNumbers (callAt row)) []
-
--- a dead row gives nothing
-no-ops : (rows : List (List ℕ)) → All Still rows → flatMap opPart rows ≡ []
-unfolding flatMap
-no-ops [] still = refl
-no-ops (row ∷ rows) still = rw (still .0) (no-ops rows (still .1))
-
-no-calls : (rows : List (List ℕ)) → All Still rows → flatMap callPart rows ≡ []
-unfolding flatMap
-no-calls [] still = refl
-no-calls (row ∷ rows) still = rw (still .0) (no-calls rows (still .1))
-
+-- what is read of rows that were made of records, dead rows behind them
 module _ (gap : ℕ) where
-  op-part : (o : Op) → LiveStep gap o → opPart (tableRow o) ≡ opRecord o
-  op-part o s = rw (row-mu 1 o) (ap opRecord (op-back 1 o (s .words) (s .piece)))
-
-  ops-read : (os : List Op) → All (LiveStep gap) os → flatMap opPart (map tableRow os) ≡ flatMap opRecord os
+  ops-read : (os : List Op) → All (LiveStep gap) os → flatMap (λ row. opRecord (opAt row)) (map tableRow os) ≡ flatMap opRecord os
   unfolding flatMap
   ops-read [] s = refl
-  ops-read (o ∷ os) s = ap₂ (λ (a b : List ℕ). a ++ b) (op-part o (s .0)) (ops-read os (s .1))
+  ops-read (o ∷ os) s = ap₂ (λ (a b : List ℕ). a ++ b) (ap opRecord (op-back 1 o (s .0 .words) (s .0 .piece))) (ops-read os (s .1))
 
-  call-part : (o : Op) → LiveStep gap o → callPart (tableRow o) ≡ cond (eqb (o .first) 1) (callNumbers (o .call)) []
-  call-part o s =
-      rw (row-mu 1 o) (ap₂ (λ (f : ℕ) (c : Call). cond (eqb f 1) (callNumbers c) []) (row-marks 1 o .0) (call-back 1 o (s .words)))
+  none-open : (rows : List (List ℕ)) → All Still rows → openingRows rows ≡ []
+  unfolding kept
+  none-open [] still = refl
+  none-open (row ∷ rows) still = rw (still .0) (none-open rows (still .1))
 
-  first-part : (f : ℕ) (c : Call) (cs : List Call) → f ≤ 1
-      → cond (eqb f 1) (callNumbers c) [] ++ flatMap callNumbers cs ≡ flatMap callNumbers (ifFirst f c cs)
-  unfolding flatMap
-  first-part zero c cs h = refl
-  first-part (suc zero) c cs h = refl
-  first-part (suc (suc f)) c cs h = absurd (omega arith)
-
-  calls-read : (os : List Op) → All (LiveStep gap) os → flatMap callPart (map tableRow os) ≡ flatMap callNumbers (firsts os)
-  unfolding flatMap
-  calls-read [] s = refl
-  calls-read (o ∷ os) s =
-      ap₂ (λ (a b : List ℕ). a ++ b) (call-part o (s .0)) (calls-read os (s .1)) ∙ first-part (o .first) (o .call) (firsts os) (s .0 .bits)
+  calls-read : (os : List Op) (others : List (List ℕ)) → All (LiveStep gap) os → All Still others
+      → flatMap (λ row. callNumbers (callAt row)) (openingRows (map tableRow os ++ others)) ≡ flatMap callNumbers (firsts os)
+  unfolding flatMap kept
+  calls-read [] others s still = ap (flatMap (λ row. callNumbers (callAt row))) (none-open others still)
+  calls-read (o ∷ os) others s still =
+      rw (row-mu 1 o, row-marks 1 o .0) (step (o .first) (s .0 .bits) (openingRows (map tableRow os ++ others)) (firsts os) (calls-read os others (s .1) still))
+    where
+      step : (f : ℕ) → f ≤ 1 → (rows : List (List ℕ)) (cs : List Call) → flatMap (λ row. callNumbers (callAt row)) rows ≡ flatMap callNumbers cs
+          → flatMap (λ row. callNumbers (callAt row)) (cond (eqb f 1) (tableRow o ∷ rows) rows) ≡ flatMap callNumbers (ifFirst f (o .call) cs)
+      step zero h rows cs e = e
+      step (suc zero) h rows cs e = ap₂ (λ (a b : List ℕ). a ++ b) (ap callNumbers (call-back 1 o (s .0 .words))) e
+      step (suc (suc f)) h rows cs e = absurd (omega arith)
 
 -- What is read of a list of whole calls
 
@@ -92,30 +71,26 @@ module _ (gap : ℕ) (g : gap < 2 ^ 32) (l : List ℕ) (ks : List CutCall) (w : 
   pub read-ops : readOps l ≡ flatMap opRecord (opsOf ks)
   unfolding readOps
   read-ops =
-      picked-rows (λ row. eqb (at row MU) 1) (λ row. opRecord (opAt row)) l
-      ∙ ap (flatMap opPart) (calls-rows gap g l ks w)
-      ∙ flatMap-append opPart (map tableRow (opsOf ks)) (w .others)
-      ∙ ap₂ (λ (a b : List ℕ). a ++ b) (ops-read gap (opsOf ks) live) (no-ops (w .others) still)
-      ∙ append-nil (flatMap opRecord (opsOf ks))
+      ap (λ rows. flatMap (λ row. opRecord (opAt row)) (liveRows rows)) (calls-rows gap g l ks w)
+      ∙ ap (flatMap (λ row. opRecord (opAt row))) (live-rows (opsOf ks) (w .others) still)
+      ∙ ops-read gap (opsOf ks) live
 
   pub read-calls : readCalls l ≡ flatMap callNumbers (callsOf ks)
   unfolding readCalls
   read-calls =
-      picked-rows (λ row. eqb (at row MU) 1 && eqb (at row FIRST) 1) (λ row. callNumbers (callAt row)) l
-      ∙ ap (flatMap callPart) (calls-rows gap g l ks w)
-      ∙ flatMap-append callPart (map tableRow (opsOf ks)) (w .others)
-      ∙ ap₂ (λ (a b : List ℕ). a ++ b) (calls-read gap (opsOf ks) live) (no-calls (w .others) still)
-      ∙ append-nil (flatMap callNumbers (firsts (opsOf ks)))
+      ap (λ rows. flatMap (λ row. callNumbers (callAt row)) (openingRows rows)) (calls-rows gap g l ks w)
+      ∙ calls-read gap (opsOf ks) (w .others) live still
       ∙ ap (flatMap callNumbers) (firsts-are ks (all-have-rows gap ks (w .sound)))
 
   -- the counts are those of the numbers written
-  ops-length : length (readOps l) ≡ OP-WIDTH * opsCount l
-  unfolding readOps opsCount
-  ops-length = picked-length OP-WIDTH (liveAt l) (λ k. opRecord (opAt (rowAt l k))) (rowsIn l) (λ k h. refl)
+  ops-length : length (readOps l) ≡ OP-WIDTH * length (liveRows (tableRows l))
+  unfolding readOps
+  ops-length = flatMap-length OP-WIDTH (λ row. opRecord (opAt row)) (liveRows (tableRows l)) (all-of (λ row. refl) (liveRows (tableRows l)))
 
-  calls-length : length (readCalls l) ≡ CALL-WIDTH * callsCount l
-  unfolding readCalls callsCount
-  calls-length = picked-length CALL-WIDTH (opensAt l) (λ k. callNumbers (callAt (rowAt l k))) (rowsIn l) (λ k h. refl)
+  calls-length : length (readCalls l) ≡ CALL-WIDTH * length (openingRows (tableRows l))
+  unfolding readCalls
+  calls-length =
+      flatMap-length CALL-WIDTH (λ row. callNumbers (callAt row)) (openingRows (tableRows l)) (all-of (λ row. refl) (openingRows (tableRows l)))
 
   abbrev records : List ℕ
   records = flatMap opRecord (opsOf ks)
@@ -131,11 +106,9 @@ module _ (gap : ℕ) (g : gap < 2 ^ 32) (l : List ℕ) (ks : List CutCall) (w : 
         BufferShort
     unfolding readBackAnswer roomAnswer
     rooms =
-        let n : OP-WIDTH * opsCount l ≡ length records = sym ops-length ∙ ap length read-ops in
-        let m : CALL-WIDTH * callsCount l ≡ length handed = sym calls-length ∙ ap length read-calls in
-        let n' : opsCount l ≡ length records / OP-WIDTH = omega arith in
-        let m' : callsCount l ≡ length handed / CALL-WIDTH = omega arith in
-        rw (calls-pass gap g l ks w, n, m, n', m')
+        let n : length (liveRows (tableRows l)) ≡ length records / OP-WIDTH = omega (arith, ops-length, ap length read-ops) in
+        let m : length (openingRows (tableRows l)) ≡ length handed / CALL-WIDTH = omega (arith, calls-length, ap length read-calls) in
+        rw (calls-pass gap g l ks w, read-ops, read-calls, n, m)
 
     pub reads-back : ReadsBack gap l records handed ops calls
     unfolding opsAfter callsAfter
@@ -167,17 +140,12 @@ pub only-nine : (gap : ℕ) (l : List ℕ) → Passes gap l → (opsRoom callsRo
 unfolding readBackAnswer roomAnswer
 only-nine gap l e opsRoom callsRoom = go (chainAnswer gap l) e
   where
-    room : (t : Bool) → let number = readBackNumbers (cond t (Read (opsCount l) (callsCount l)) BufferShort) .answer .number in (number ≡ 0) ⊎ (number ≡ 9)
+    room : (t : Bool) → let answer = cond t (Read (length (liveRows (tableRows l))) (length (openingRows (tableRows l)))) BufferShort in
+        (readBackNumbers answer .answer .number ≡ 0) ⊎ (readBackNumbers answer .answer .number ≡ 9)
     room true = inl refl
     room false = inr refl
 
     go : (v : ChainAnswer) → chainNumbers v .number ≡ 0
         → let number = readBackNumbers (onChain v (roomAnswer l opsRoom callsRoom)) .answer .number in (number ≡ 0) ⊎ (number ≡ 9)
-    go (Passed rows) e = room (leb (OP-WIDTH * opsCount l) opsRoom && leb (CALL-WIDTH * callsCount l) callsRoom)
-    go GapTooLarge e = absurd (omega arith)
-    go NotRows e = absurd (omega arith)
-    go (BadElement row) e = absurd (omega arith)
-    go (BadRange row) e = absurd (omega arith)
-    go (BadResidue row index) e = absurd (omega arith)
-    go (LinkBroken row) e = absurd (omega arith)
-    go (NotEnded rows) e = absurd (omega arith)
+    go (Passed rows) e = room (leb (length (readOps l)) opsRoom && leb (length (readCalls l)) callsRoom)
+    go (Refused why) e = absurd (false≢true (sym (refusal-numbered why) ∙ eq-eqb _ _ e))

@@ -2,7 +2,7 @@
 -- with a row only after it found nothing wrong in it, so each row is the row of the record read off it; the link test is then an equation
 -- of calls. Assumes nothing.
 use mathlib.Core.Path.{_≡_, refl, sym, ap, ap₂, _∙_, subst}
-use mathlib.Core.Bool.{Bool, true, false, cond, _&&_, false≢true}
+use mathlib.Core.Bool.{true, cond, false≢true}
 use mathlib.Core.List.{List, [], _∷_, _++_, map}
 use mathlib.Core.Option.{Option, none, some}
 use mathlib.Core.Logic.{_⊎_, inl, inr}
@@ -11,7 +11,8 @@ use native.Mathlib.Omega.{arith}
 use borrow.Author.Tests.{eqb-true, eq-eqb}
 use lib.Dec.{eqb}
 use lib.ListN.{length, getD}
-use Rattle.lists.specs.Lists.{at, All}
+use Rattle.lists.specs.Lists.{at, All, same}
+use Rattle.lists.proofs.Same.{same-eq, eq-same}
 use Rattle.words.specs.Words.{bit}
 use Rattle.call.specs.Calls.{Call, Op}
 use Rattle.copy_row.specs.Columns.{END, MU, COLUMNS}
@@ -23,34 +24,12 @@ use Rattle.copy_meaning.specs.ReadRow.{opAt, nextAt}
 use Rattle.copy_meaning.proofs.RowIff.{row-iff, live-passes}
 use Rattle.copy_meaning.proofs.ReadBack.{call-back, next-back}
 use Rattle.calls.specs.OpChain.{unlessEnd, next, Opens, Chain}
-use Rattle.chain.specs.Link.{Before, closed, unended, dead, same, shown, handedOn, liveLinked, deadLinked, linked, before}
+use Rattle.chain.specs.Link.{Before, closed, unended, dead, shown, handedOn, liveLinked, deadLinked, linked, before}
 use Rattle.chain.specs.Chain.{chainFrom}
-use Rattle.chain.specs.declared.ChainAnswer.the-variants.{Passed, LinkBroken}
-use Rattle.read_back.proofs.Passed.{Accepted, fault-accepted, link-accepted}
+use Rattle.chain.specs.declared.ChainAnswer.the-variants.{Passed, Refused}
+use Rattle.chain.specs.declared.ChainRefusal.the-variants.{LinkBroken}
+use Rattle.chain.proofs.Passed.{Accepted, fault-accepted, link-accepted}
 use Rattle.demand.proofs.MadeRows.{row-mu}
-
--- Tests of lists
-
-and-true : (s t : Bool) → s && t ≡ true → (s ≡ true) × (t ≡ true)
-and-true true t e = (refl, e)
-and-true false t e = absurd (false≢true e)
-
-pub same-eq : (a b : List ℕ) → same a b ≡ true → a ≡ b
-unfolding same
-same-eq [] [] e = refl
-same-eq [] (b ∷ ys) e = absurd (false≢true e)
-same-eq (a ∷ xs) [] e = absurd (false≢true e)
-same-eq (a ∷ xs) (b ∷ ys) e =
-    let h = and-true (eqb a b) (same xs ys) e in
-    λ i. eqb-true a b (h .0) i ∷ same-eq xs ys (h .1) i
-
-same-refl : (a : List ℕ) → same a a ≡ true
-unfolding same
-same-refl [] = refl
-same-refl (a ∷ xs) = rw (eq-eqb a a refl) (same-refl xs)
-
-pub eq-same : (a b : List ℕ) → a ≡ b → same a b ≡ true
-eq-same a b e = rw e (same-refl b)
 
 -- What a row that passes says
 
@@ -152,7 +131,7 @@ module _ (gap : ℕ) (g : gap < 2 ^ 32) where
   accepted-good (unended previous) k [] wide e = absurd (omega arith)
   accepted-good dead k [] wide e = tt
   accepted-good b k (row ∷ rows) wide e =
-      let f = fault-accepted (rowFault gap row) k (cond (linked b row) (chainFrom gap (before row) (k + 1) rows) (LinkBroken k)) e in
+      let f = fault-accepted (rowFault gap row) k (cond (linked b row) (chainFrom gap (before row) (k + 1) rows) (Refused (LinkBroken k))) e in
       let l = link-accepted (linked b row) k (chainFrom gap (before row) (k + 1) rows) (f .1) in
       go (live-or-dead row (wide .0) (f .0)) (f .0) (l .0) (accepted-good (before row) (k + 1) rows (wide .1) (l .1))
     where

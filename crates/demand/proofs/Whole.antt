@@ -1,15 +1,13 @@
 -- A list passes exactly when its live rows are those of sound cut calls and its other rows are dead and last. Assumes nothing.
 use mathlib.Core.Path.{_≡_, refl, sym, ap, _∙_, subst}
-use mathlib.Core.Bool.{Bool, true, false, cond}
 use mathlib.Core.List.{List, [], _∷_, _++_, map}
 use mathlib.Core.Logic.{inl}
 use mathlib.Core.Option.{Option, none, some}
 use Prim.Native.Nat.{ℕ, _/_, _%_, _^_, _<_}
 use native.Mathlib.Omega.{arith}
-use borrow.Author.Tests.{eqb-true, eq-eqb, lt-leb}
-use lib.Dec.{eqb}
 use lib.ListN.{length}
-use Rattle.lists.specs.Lists.{at, All}
+use Rattle.lists.specs.Lists.{at, All, kept}
+use Rattle.records.proofs.RecordList.{records-whole}
 use Rattle.call.specs.Calls.{Call, Op}
 use Rattle.call.specs.Cuts.{CutCall, opsOf, Fits}
 use Rattle.copy_row.specs.Columns.{MU, COLUMNS}
@@ -24,14 +22,14 @@ use Rattle.calls.specs.OpChain.{next, Chain}
 use Rattle.calls.proofs.Parse.{parse}
 use Rattle.calls.proofs.Chained.{chain}
 use Rattle.chain.specs.Link.{closed}
-use Rattle.chain.specs.Chain.{rowsOf, chainFrom, chainAnswer, chainNumbers}
-use Rattle.chain.specs.declared.ChainAnswer.{ChainAnswer}
-use Rattle.chain.specs.declared.ChainAnswer.the-variants.{Passed, NotRows}
-use Rattle.read_back.proofs.Passed.{Accepted}
-use Rattle.demand.specs.Demand.{Passes, liveRows, DeadRow, Each, WholeCalls}
+use Rattle.chain.specs.Chain.{tableRows, chainFrom, chainAnswer, chainNumbers}
+use Rattle.chain.specs.declared.ChainAnswer.the-variants.{Passed}
+use Rattle.chain.proofs.Rows.{rows-count, checked}
+use Rattle.chain.proofs.Passed.{passing}
+use Rattle.read_back.specs.ReadBack.{liveRows}
+use Rattle.demand.specs.Demand.{Passes, DeadRow, Each, WholeCalls}
 use Rattle.demand.proofs.MadeRows.{row-mu}
 use Rattle.demand.proofs.Verdict.{DeadFine, accepted-good, good-passes}
-use Rattle.demand.proofs.RowLists.{rows-length, rows-of-wide}
 
 -- every record of a chain is a live step
 pub steps : (gap : ℕ) (e : Option Call) (os : List Op) → Chain gap e os → All (LiveStep gap) os
@@ -45,10 +43,12 @@ abbrev pub Still : List ℕ → Type 0
 Still row = at row MU ≡ 0
 
 live-none : (rows : List (List ℕ)) → All Still rows → liveRows rows ≡ []
+unfolding kept
 live-none [] still = refl
 live-none (row ∷ rows) still = rw (still .0) (live-none rows (still .1))
 
 pub live-rows : (os : List Op) (others : List (List ℕ)) → All Still others → liveRows (map tableRow os ++ others) ≡ map tableRow os
+unfolding kept
 live-rows [] others still = live-none others still
 live-rows (o ∷ os) others still = rw (row-mu 1 o) (ap (λ t. tableRow o ∷ t) (live-rows os others still))
 
@@ -87,19 +87,6 @@ behind (x ∷ xs) ys wide = behind xs ys (wide .1)
 
 -- The whole check
 
-module _ (gap : ℕ) (g : gap < 2 ^ 32) (l : List ℕ) where
-  pub check-rows : length l % COLUMNS ≡ 0 → chainAnswer gap l ≡ chainFrom gap closed 0 (rowsOf l)
-  unfolding chainAnswer
-  check-rows whole = rw (lt-leb (2 ^ 32) gap g, eq-eqb (length l % COLUMNS) 0 whole)
-
-  pub passes-whole : Passes gap l → length l % COLUMNS ≡ 0
-  unfolding chainAnswer
-  passes-whole e = eqb-true _ _ (go (eqb (length l % COLUMNS) 0) (rw (lt-leb (2 ^ 32) gap g) at e))
-    where
-      go : (t : Bool) → Accepted (cond t (chainFrom gap closed 0 (rowsOf l)) NotRows) → t ≡ true
-      go true e = refl
-      go false e = absurd (omega arith)
-
 module _ (gap : ℕ) (g : gap < 2 ^ 32) where
   made-call-rows : (os : List Op) → All (LiveStep gap) os → Each (CallRow gap) os (map tableRow os)
   made-call-rows [] s = tt
@@ -110,9 +97,9 @@ module _ (gap : ℕ) (g : gap < 2 ^ 32) where
 
   -- rows of cut calls that fit, then dead rows
   pub whole-calls : (l : List ℕ) → length l % COLUMNS ≡ 0 → (ks : List CutCall) → All (Fits gap) ks → (others : List (List ℕ))
-      → All (DeadRow gap) others → rowsOf l ≡ map tableRow (opsOf ks) ++ others → WholeCalls gap l ks
+      → All (DeadRow gap) others → tableRows l ≡ map tableRow (opsOf ks) ++ others → WholeCalls gap l ks
   whole-calls l whole ks fits others dead same =
-      let live : liveRows (rowsOf l) ≡ map tableRow (opsOf ks) = ap liveRows same ∙ live-rows (opsOf ks) others (all-still gap others dead) in
+      let live : liveRows (tableRows l) ≡ map tableRow (opsOf ks) = ap liveRows same ∙ live-rows (opsOf ks) others (all-still gap others dead) in
       record {
         rows = whole;
         sound = fits;
@@ -126,8 +113,8 @@ module _ (gap : ℕ) (g : gap < 2 ^ 32) where
 
   pub passes-calls : (l : List ℕ) → Passes gap l → (ks : List CutCall) × WholeCalls gap l ks
   passes-calls l e =
-      let whole = passes-whole gap g l e in
-      let good = accepted-good gap g closed 0 (rowsOf l) (rows-of-wide l whole) (subst (λ (v : ChainAnswer). Accepted v) (check-rows gap g l whole) e) in
+      let whole = passing gap l e .whole in
+      let good = accepted-good gap g closed 0 (tableRows l) (records-whole COLUMNS (omega arith) l whole) (passing gap l e .rows) in
       let parsed = parse gap none (good .ops) (good .chain) in (
         parsed .0,
         whole-calls l whole (parsed .0) (parsed .1) (good .others) (dead-rows gap (good .others) (good .dead))
@@ -136,18 +123,18 @@ module _ (gap : ℕ) (g : gap < 2 ^ 32) where
 
   module _ (l : List ℕ) (ks : List CutCall) (w : WholeCalls gap l ks) where
     -- the list's rows are the table rows of the calls, then the others
-    pub calls-rows : rowsOf l ≡ map tableRow (opsOf ks) ++ w .others
-    calls-rows = w .last ∙ ap (λ rows. rows ++ w .others) (rows-are gap (opsOf ks) (liveRows (rowsOf l)) (w .live))
+    pub calls-rows : tableRows l ≡ map tableRow (opsOf ks) ++ w .others
+    calls-rows = w .last ∙ ap (λ rows. rows ++ w .others) (rows-are gap (opsOf ks) (liveRows (tableRows l)) (w .live))
 
     pub calls-pass : chainAnswer gap l ≡ Passed (length l / COLUMNS)
     calls-pass =
-        let wide : All Wide (map tableRow (opsOf ks) ++ w .others) = subst (All Wide) calls-rows (rows-of-wide l (w .rows)) in
+        let wide : All Wide (map tableRow (opsOf ks) ++ w .others) = subst (All Wide) calls-rows (records-whole COLUMNS (omega arith) l (w .rows)) in
         let fine = dead-fine gap (w .others) (behind (map tableRow (opsOf ks)) (w .others) wide) (w .dead) in
-        check-rows gap g l (w .rows)
+        checked gap l g (w .rows)
         ∙ ap (chainFrom gap closed 0) calls-rows
         ∙ good-passes gap g (opsOf ks) (w .others) (chain gap ks (w .sound)) fine
         ∙ ap (λ rows. Passed (length rows)) (sym calls-rows)
-        ∙ ap Passed (rows-length (length l / COLUMNS) l)
+        ∙ ap Passed (rows-count l (w .rows))
 
     pub calls-passes : Passes gap l
     calls-passes = ap (λ v. chainNumbers v .number) calls-pass

@@ -20,20 +20,15 @@ use Rattle.copy_row.specs.Columns.{MU, COLUMNS}
 use Rattle.copy_row.specs.Trace.{copyAnswer, copyAfter}
 use Rattle.copy_residues.specs.Residues.{residue, RESIDUES}
 use Rattle.copy_meaning.specs.RowIff.{InRange, CallRow}
-use Rattle.chain.specs.Chain.{rowsOf, chainAnswer, chainNumbers}
+use Rattle.chain.specs.Chain.{tableRows, chainAnswer, chainNumbers}
 use Rattle.chain.specs.declared.ChainAnswer.the-variants.{Passed}
-use Rattle.read_back.specs.ReadBack.{readBackAnswer, opsAfter, callsAfter, readBackNumbers}
+use Rattle.read_back.specs.ReadBack.{liveRows, readBackAnswer, opsAfter, callsAfter, readBackNumbers}
 use Rattle.read_back.specs.declared.ReadBackAnswer.the-variants.{Read, BufferShort}
 use Rattle.calls_in_turn.specs.Accepted.{acceptedOps, acceptedCalls}
 
 -- "A list passes under a gap when the chain check, given both, refuses nothing"
 abbrev pub Passes : ℕ → List ℕ → Type 0
 Passes gap l = chainNumbers (chainAnswer gap l) .number ≡ 0
-
--- "Live means MU 1": the live rows, in order
-abbrev pub liveRows : List (List ℕ) → List (List ℕ)
-liveRows [] = []
-liveRows (row ∷ rows) = cond (eqb (at row MU) 1) (row ∷ liveRows rows) (liveRows rows)
 
 -- "dead MU 0": a dead row that is in range and has 40 zero residues
 pub record DeadRow (gap : ℕ) (row : List ℕ) : Type 0 where
@@ -52,13 +47,13 @@ Each R (x ∷ xs) (y ∷ ys) = R x y × Each R xs ys
 pub record WholeCalls (gap : ℕ) (l : List ℕ) (ks : List CutCall) : Type 0 where
   -- the list is rows of 41 numbers
   pub rows : length l % COLUMNS ≡ 0
-  -- "Its live rows, in order, are those of a list of copy, set and write calls"
-  pub live : Each (CallRow gap) (opsOf ks) (liveRows (rowsOf l))
+  -- "Live means MU 1"; "Its live rows, in order, are those of a list of copy, set and write calls"
+  pub live : Each (CallRow gap) (opsOf ks) (liveRows (tableRows l))
   -- "that document 01 calls sound, each cut into widths of 1 and 8 adding up to its count (one row if the count is 0)."
   pub sound : All (Fits gap) ks
   -- "All its other rows are dead, come last, are in range and have 40 zero residues."
   pub others : List (List ℕ)
-  pub last : rowsOf l ≡ liveRows (rowsOf l) ++ others
+  pub last : tableRows l ≡ liveRows (tableRows l) ++ others
   pub dead : All (DeadRow gap) others
 
 -- what read-back does with a list that holds these records and these calls, flat, when lent two buffers
@@ -96,7 +91,7 @@ pub record Demand3 : Type 0 where
       → (ops calls : List ℕ) → ReadsBack gap l (flatMap opRecord (opsOf ks)) (flatMap callNumbers (callsOf ks)) ops calls
   -- "and no other list of calls, widths and value bytes has those live rows."
   pub alone : (gap : ℕ) (l : List ℕ) (ks : List CutCall) → WholeCalls gap l ks
-      → (js : List CutCall) → All AnyCall js → Each (CallRow gap) (opsOf js) (liveRows (rowsOf l)) → js ≡ ks
+      → (js : List CutCall) → All AnyCall js → Each (CallRow gap) (opsOf js) (liveRows (tableRows l)) → js ≡ ks
   -- document 01: "read-back can then refuse it only with 9"
   pub only-nine : (gap : ℕ) (l : List ℕ) → Passes gap l → (opsRoom callsRoom : ℕ)
       → let number = readBackNumbers (readBackAnswer gap l opsRoom callsRoom) .answer .number in (number ≡ 0) ⊎ (number ≡ 9)

@@ -18,7 +18,8 @@ use Rattle.copy_row.specs.Columns.{SRC, SRC-INCR, DST-INCR, MU-COM-WIDE, COLUMN
 use Rattle.copy_row.specs.Rows.{tableRow, paddingRow}
 use Rattle.copy_row.specs.Trace.{copyAnswer, copyAfter}
 use Rattle.chain.specs.Chain.{chainAnswer}
-use Rattle.chain.specs.declared.ChainAnswer.the-variants.{Passed, GapTooLarge, NotRows, BadElement, BadRange, BadResidue, LinkBroken, NotEnded}
+use Rattle.chain.specs.declared.ChainAnswer.the-variants.{Passed, Refused}
+use Rattle.chain.specs.declared.ChainRefusal.the-variants.{GapTooLarge, NotRows, BadElement, BadRange, BadResidue, LinkBroken, NotEnded}
 use Rattle.read_back.specs.ReadBack.{readOps, readCalls, readBackAnswer}
 use Rattle.read_back.specs.declared.ReadBackAnswer.the-variants.{Read, BufferShort}
 use Rattle.calls_in_turn.specs.Accepted.{acceptedOf, acceptedOps}
@@ -88,14 +89,14 @@ pub record Instances : Type 0 where
   pub any : AnyCall unsound
   -- a list for each refusal of the chain check: a gap too large, a number too many, a number that is p, a half of 65,537, a wrong sum, a
   -- row out of its order, a live row after a dead one, a call cut off
-  pub refused-7 : chainAnswer (2 ^ 32) rows ≡ GapTooLarge
-  pub refused-13 : chainAnswer 8 (rows ++ (0 ∷ [])) ≡ NotRows
-  pub refused-14 : chainAnswer 8 (spoiled 4 MU-COM-WIDE p) ≡ BadElement 4
-  pub refused-15 : chainAnswer 8 (spoiled 3 SRC-INCR 65537) ≡ BadRange 3
-  pub refused-16 : chainAnswer 8 (spoiled 1 DST-INCR 26) ≡ BadResidue 1 12
-  pub refused-17 : chainAnswer 8 (row 1 ++ row 0) ≡ LinkBroken 0
-  pub refused-17-late : chainAnswer 8 (deadRow ++ row 2) ≡ LinkBroken 1
-  pub refused-18 : chainAnswer 8 (row 0) ≡ NotEnded 1
+  pub refused-7 : chainAnswer (2 ^ 32) rows ≡ Refused GapTooLarge
+  pub refused-13 : chainAnswer 8 (rows ++ (0 ∷ [])) ≡ Refused NotRows
+  pub refused-14 : chainAnswer 8 (spoiled 4 MU-COM-WIDE p) ≡ Refused (BadElement 4)
+  pub refused-15 : chainAnswer 8 (spoiled 3 SRC-INCR 65537) ≡ Refused (BadRange 3)
+  pub refused-16 : chainAnswer 8 (spoiled 1 DST-INCR 26) ≡ Refused (BadResidue 1 12)
+  pub refused-17 : chainAnswer 8 (row 1 ++ row 0) ≡ Refused (LinkBroken 0)
+  pub refused-17-late : chainAnswer 8 (deadRow ++ row 2) ≡ Refused (LinkBroken 1)
+  pub refused-18 : chainAnswer 8 (row 0) ≡ Refused (NotEnded 1)
   -- expanded in turn: the Set is refused with 3, and the table of the other two has four rows that pass
   pub typed : All Typed tries
   pub set-refused : answered (under 8) setTry .number ≡ 3

@@ -8,3 +8,4 @@ pub mod Kept
 pub mod Copied
 pub mod SetMoves
 pub mod Consequences
+pub mod Computing

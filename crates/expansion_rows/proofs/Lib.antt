@@ -5,3 +5,4 @@ pub mod OneTurn
 pub mod HeldOps
 pub mod ReadLoop
 pub mod WriteLoop
+pub mod Computing

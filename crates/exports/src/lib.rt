@@ -27,9 +27,7 @@ ghost use Rattle.copy_residues.specs.Answers.{residueAnswer, residueNumbers};
 ghost use Rattle.add_pair.specs.Answers.{addPairAnswer, addPairAfter, addPairNumbers};
 ghost use Rattle.memw_residues.specs.Answers.{residueAnswer as memwResidueAnswer, residueNumbers as memwResidueNumbers};
 ghost use Rattle.chain.specs.Chain.{chainAnswer, chainNumbers};
-ghost use Rattle.read_back.specs.Counts.{countsAfter as readCounts};
-ghost use Rattle.read_back.specs.ReadBack.{readBackAnswer, readBackNumbers, opsAfter, callsAfter};
-ghost use Rattle.exports.specs.Exports.{routedNumbers, countsAfter};
+ghost use Rattle.exports.specs.Exports.{routedNumbers, routedCounts, FlatRead};
 
 // a + b modulo p, or 14.
 #[no_mangle]
@@ -141,10 +139,7 @@ pub extern "C" fn read_back(
     calls: &mut [u64],
     counts: &mut [u64; 2],
 ) -> Answer
-    ensures answer { λ r. ⌜ r ≡ readBackNumbers (readBackAnswer gap (now (rows .entry)) (length (now (ops .entry))) (length (now (calls .entry)))) .answer ⌝ }
-    ensures ops { λ r. ⌜ now (ops .exit) ≡ opsAfter (readBackAnswer gap (now (rows .entry)) (length (now (ops .entry))) (length (now (calls .entry)))) (now (rows .entry)) (now (ops .entry)) ⌝ }
-    ensures calls { λ r. ⌜ now (calls .exit) ≡ callsAfter (readBackAnswer gap (now (rows .entry)) (length (now (ops .entry))) (length (now (calls .entry)))) (now (rows .entry)) (now (calls .entry)) ⌝ }
-    ensures counts { λ r. ⌜ now (counts .exit) ≡ readCounts (readBackNumbers (readBackAnswer gap (now (rows .entry)) (length (now (ops .entry))) (length (now (calls .entry))))) (now (counts .entry)) ⌝ }
+    ensures { λ r. ⌜ FlatRead gap (now (rows .entry)) (now (ops .entry)) (now (calls .entry)) (now (counts .entry)) r (now (ops .exit)) (now (calls .exit)) (now (counts .exit)) ⌝ }
 {
     read_back::read_back_numbers(read_back::read_back(gap, rows, ops, calls), counts)
 }
@@ -163,7 +158,7 @@ pub extern "C" fn route_accesses(
     ensures register { λ r. ⌜ now (register .exit) ≡ routeAfter ToRegister (now (accesses .entry)) (routeAnswer 65536 (now (accesses .entry)) (length (now (register .entry))) (length (now (aligned .entry))) (length (now (general .entry)))) (now (register .entry)) ⌝ }
     ensures aligned { λ r. ⌜ now (aligned .exit) ≡ routeAfter ToAligned (now (accesses .entry)) (routeAnswer 65536 (now (accesses .entry)) (length (now (register .entry))) (length (now (aligned .entry))) (length (now (general .entry)))) (now (aligned .entry)) ⌝ }
     ensures general { λ r. ⌜ now (general .exit) ≡ routeAfter ToGeneral (now (accesses .entry)) (routeAnswer 65536 (now (accesses .entry)) (length (now (register .entry))) (length (now (aligned .entry))) (length (now (general .entry)))) (now (general .entry)) ⌝ }
-    ensures counts { λ r. ⌜ now (counts .exit) ≡ countsAfter (routeNumbers 8 (routeAnswer 65536 (now (accesses .entry)) (length (now (register .entry))) (length (now (aligned .entry))) (length (now (general .entry))))) (now (counts .entry)) ⌝ }
+    ensures counts { λ r. ⌜ now (counts .exit) ≡ routedCounts (routeNumbers 8 (routeAnswer 65536 (now (accesses .entry)) (length (now (register .entry))) (length (now (aligned .entry))) (length (now (general .entry))))) (now (counts .entry)) ⌝ }
 {
     let routed = routing::numbers(
         8,

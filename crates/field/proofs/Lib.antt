@@ -8,3 +8,4 @@ pub mod Answers
 pub mod Reduction
 pub mod Pigeon
 pub mod Proth
+pub mod Computing

@@ -3,9 +3,10 @@ use Prim.Native.Nat.{ℕ}
 use mathlib.Core.Path.{_≡_}
 use mathlib.Core.Bool.{true, false}
 use mathlib.Core.List.{List}
+use Rattle.lists.specs.Lists.{same}
 use Rattle.call.specs.declared.Functionality.{Functionality}
 use Rattle.call.specs.declared.Functionality.the-variants.{Copy, Set, Write}
-use Rattle.line_text.specs.Pieces.{before, after, same}
+use Rattle.line_text.specs.Pieces.{before, after}
 use Rattle.line_text.specs.Numbers.{numberOf}
 use Rattle.line_text.specs.Lines.{callOf, wordOf, gapOf, gapWord, copyWord, setWord, writeWord}
 use Rattle.line_text.specs.declared.Line.the-variants.{Call, Other}

@@ -11,7 +11,8 @@ use borrow.Author.Tests.{eq-eqb, ne-eqb}
 use lib.ListN.{length, drop, take, getD, drop-of-length-le, length-drop}
 use lib.Seq.{drop-cons, take-all, drop-drop, drop-length}
 use lib.Dec.{eqb}
-use Rattle.line_text.specs.Pieces.{indexOf, before, after, same}
+use Rattle.lists.specs.Lists.{same}
+use Rattle.line_text.specs.Pieces.{indexOf, before, after}
 use Rattle.line_text.specs.Lines.{onto, lines}
 
 -- one look at the byte at i: it is b, it is not, or the text has ended

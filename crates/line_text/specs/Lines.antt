@@ -5,9 +5,10 @@ use Prim.Native.Nat.{ℕ}
 use mathlib.Core.Bool.{cond}
 use mathlib.Core.List.{List, [], _∷_}
 use lib.Dec.{eqb}
+use Rattle.lists.specs.Lists.{same}
 use Rattle.call.specs.declared.Functionality.{Functionality}
 use Rattle.call.specs.declared.Functionality.the-variants.{Copy, Set, Write}
-use Rattle.line_text.specs.Pieces.{before, after, same}
+use Rattle.line_text.specs.Pieces.{before, after}
 use Rattle.line_text.specs.Numbers.{numberOf}
 use Rattle.line_text.specs.declared.Line.{Line}
 use Rattle.line_text.specs.declared.Line.the-variants.{Call, Other}

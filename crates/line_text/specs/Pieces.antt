@@ -1,8 +1,8 @@
--- The pieces of a text: what stands before and after the first separator, and when two texts are equal. A text without the separator
+-- The pieces of a text: what stands before and after the first separator. A text without the separator
 -- is its own first piece and leaves nothing after it, so a line with too few fields has empty ones and needs no case of its own.
 -- Document 01: "call lines, tab-parted". Assumes nothing.
 use Prim.Native.Nat.{ℕ, suc, _+_}
-use mathlib.Core.Bool.{Bool, true, false, cond, _&&_}
+use mathlib.Core.Bool.{cond}
 use mathlib.Core.List.{List, [], _∷_}
 use lib.ListN.{take, drop}
 use lib.Dec.{eqb}
@@ -19,10 +19,3 @@ before b l = take (indexOf b l) l
 -- what stands after the first b, nothing where there is none
 unfoldable pub after : ℕ → List ℕ → List ℕ
 after b l = drop (indexOf b l + 1) l
-
--- whether two texts are equal
-unfoldable pub same : List ℕ → List ℕ → Bool
-same [] [] = true
-same [] (y ∷ ys) = false
-same (x ∷ xs) [] = false
-same (x ∷ xs) (y ∷ ys) = eqb x y && same xs ys

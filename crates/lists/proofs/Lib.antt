@@ -7,3 +7,5 @@ pub mod First
 pub mod Flat
 pub mod Filled
 pub mod Listed
+pub mod Same
+pub mod Computing

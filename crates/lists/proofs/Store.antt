@@ -8,7 +8,7 @@ use native.Mathlib.Nat.{add-zero}
 use native.Mathlib.Numerals.{add-one}
 use native.Mathlib.Omega.{arith}
 use lib.ListN.{length, take, drop, getD, set, length-append, length-set, length-drop, drop-of-length-le}
-use lib.Seq.{take-at, sets, sets-eq, drop-cons, length-take-le, getD-take, getD-drop, drop-drop, getD-set-same, getD-set-other}
+use lib.Seq.{take-at, sets, sets-eq, drop-cons, length-take-le, getD-take, getD-drop, drop-drop, getD-set-same, getD-set-other, take-take}
 use Rattle.lists.specs.Lists.{store}
 
 -- Stores one by one
@@ -69,6 +69,13 @@ store-end l src j i h = rw (drop-of-length-le src h, store-none)
 -- w numbers from index i on
 pub run-length : (l : List ℕ) (i w : ℕ) → i + w ≤ length l → length (take w (drop i l)) ≡ w
 run-length l i w h = length-take-le w (drop i l) (simp length-drop (omega arith))
+
+-- of the first n
+pub run-taken : (v i n : ℕ) (l : List ℕ) → i + v ≤ n → take v (drop i (take n l)) ≡ take v (drop i l)
+run-taken v zero n l h = take-take v n l (omega arith)
+run-taken v (suc i) zero l h = absurd (omega arith)
+run-taken v (suc i) (suc n) [] h = refl
+run-taken v (suc i) (suc n) (x ∷ xs) h = run-taken v i n xs (omega arith)
 
 pub run-at : (l : List ℕ) (i w j : ℕ) → j < w → getD (take w (drop i l)) j 0 ≡ getD l (i + j) 0
 run-at l i w j h = getD-take w (drop i l) j 0 h ∙ getD-drop i l j 0

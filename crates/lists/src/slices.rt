@@ -1,6 +1,8 @@
-// Internal to the workspace, not open to callers: copying and clearing lent slices. Assumes nothing but what each `requires` says.
+// Internal to the workspace, not open to callers: copying and clearing lent slices, and counting. Assumes nothing but what each `requires` says.
 ghost use mathlib.Core.Path.{_≡_};
+ghost use Prim.Native.Nat.{_+_, _^_, _≤_, _<_};
 ghost use lib.ListN.{length, replicate};
+ghost use Rattle.lists.specs.Lists.{store, oneMore};
 
 // Copies `src` into `dst`, which is as long.
 pub fn put(dst: &mut [u64], src: &[u64])
@@ -14,6 +16,14 @@ pub fn put(dst: &mut [u64], src: &[u64])
     }
 }
 
+// Stores `part` into `list` from index `at` on.
+pub fn put_at(list: &mut [u64], at: usize, part: &[u64])
+    requires { ⌜ at + length (now part) ≤ length (now list) ⌝ }
+    ensures { λ _. ⌜ now (list .exit) ≡ store (now (list .entry)) at (now (part .entry)) ⌝ }
+{
+    put(&mut list[at..at + part.len()], part);
+}
+
 // Fills `row` with zeros.
 pub fn clear(row: &mut [u64])
     ensures { λ _. ⌜ now (row .exit) ≡ replicate (length (now (row .entry))) 0 ⌝ }
@@ -23,4 +33,15 @@ pub fn clear(row: &mut [u64])
         row[i] = 0;
         i += 1;
     }
+}
+
+// One more of `j`, if it is wanted.
+pub fn one_more(wanted: bool, j: usize) -> usize
+    requires { ⌜ j < 2 ^ 63 ⌝ }
+    ensures { λ r. ⌜ r ≡ oneMore wanted j ⌝ }
+{
+    if wanted {
+        return j + 1;
+    }
+    j
 }

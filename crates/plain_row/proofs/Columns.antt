@@ -15,7 +15,7 @@ use Rattle.copy_residues.specs.Range.{columnLimits}
 use Rattle.copy_meaning.specs.ReadRow.{TwoWords, FourHalves}
 use Rattle.copy_meaning.specs.RowIff.{InRange}
 use Rattle.copy_meaning.proofs.Columns as Ranged
-use Rattle.plain_row.specs.Tests.{caps, Fits, TailAt}
+use Rattle.plain_row.specs.Tests.{caps, Caps, TailAt}
 use Rattle.plain_row.proofs.Booleans.{and-true, or-true, true-or}
 
 -- a cap is at most the column's limit
@@ -30,9 +30,9 @@ caps-same c h =
     eqb-true _ _
     (not-false _ (first-none (λ c. not (eqb (getD caps c 0) (getD columnLimits c 0))) 0 FIRST c (unfold first caps columnLimits in omega arith) (omega arith) (omega arith)))
 
-module _ (row : List ℕ) (fit : Fits row) where
+module _ (row : List ℕ) (fit : Caps row) where
   pub fits-range : InRange row
-  unfolding Fits
+  unfolding Caps
   fits-range c h = omega (arith, fit c h, caps-limits c h)
 
   pub stamp-words : TwoWords row TIMESTAMP
@@ -60,23 +60,23 @@ module _ (row : List ℕ) (fit : Fits row) where
   res-halves = Ranged.res-halves row fits-range
 
   pub end-bit : at row END < 2
-  unfolding Fits caps columnLimits
+  unfolding Caps caps columnLimits
   end-bit = fit END (lit< tt)
 
   pub single-bit : at row SINGLE < 2
-  unfolding Fits caps columnLimits
+  unfolding Caps caps columnLimits
   single-bit = fit SINGLE (lit< tt)
 
   pub set-bit : at row IS-SET < 2
-  unfolding Fits caps columnLimits
+  unfolding Caps caps columnLimits
   set-bit = fit IS-SET (lit< tt)
 
   pub write-bit : at row IS-WRITE < 2
-  unfolding Fits caps columnLimits
+  unfolding Caps caps columnLimits
   write-bit = fit IS-WRITE (lit< tt)
 
   pub mu-bit : at row MU < 2
-  unfolding Fits caps columnLimits
+  unfolding Caps caps columnLimits
   mu-bit = fit MU (lit< tt)
 
 -- one column more is known to lie below its cap

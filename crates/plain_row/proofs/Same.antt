@@ -16,7 +16,7 @@ use Rattle.copy_residues.specs.declared.RowFault.the-variants.{Fine}
 use Rattle.copy_meaning.specs.RowIff.{InRange}
 use Rattle.copy_meaning.proofs.RowIff.{plain-iff}
 use Rattle.copy_meaning.proofs.Plain.{Plain}
-use Rattle.plain_row.specs.Tests.{caps, Fits, FlagsAt, MovesAt, CountsAt, ResultAt, GapAt, TailAt}
+use Rattle.plain_row.specs.Tests.{caps, Caps, FlagsAt, MovesAt, CountsAt, ResultAt, GapAt, TailAt}
 use Rattle.plain_row.proofs.Columns.{caps-same, fits-range, single-bit, mu-bit}
 
 -- the seven tests
@@ -29,7 +29,7 @@ pub record Tests (gap : ℕ) (row : List ℕ) : Type 0 where
   pub gapped : GapAt gap row
   pub tail : TailAt row
 
-plain-of : (gap : ℕ) (row : List ℕ) → Fits row → Tests gap row → Plain gap row
+plain-of : (gap : ℕ) (row : List ℕ) → Caps row → Tests gap row → Plain gap row
 plain-of gap row fit t =
     record {
       mu = mu-bit row fit;
@@ -94,8 +94,8 @@ nine-flags P a b c d e f g h i (suc (suc (suc (suc (suc (suc (suc (suc zero)))))
 nine-flags P a b c d e f g h i (suc (suc (suc (suc (suc (suc (suc (suc (suc j))))))))) l = absurd (omega arith)
 
 -- a row in range with the plain facts lies below its caps
-fits-of : (gap : ℕ) (row : List ℕ) → InRange row → Plain gap row → Fits row
-unfolding Fits caps columnLimits
+fits-of : (gap : ℕ) (row : List ℕ) → InRange row → Plain gap row → Caps row
+unfolding Caps caps columnLimits
 fits-of gap row range q c h = go (ltb c FIRST) refl
   where
     write : at row IS-WRITE < 2
@@ -119,11 +119,11 @@ fits-of gap row range q c h = go (ltb c FIRST) refl
         subst (λ (x : ℕ). at row x < getD caps x 0) s (flags (c - FIRST) (omega arith))
 
 module _ (gap : ℕ) (g : gap < 2 ^ 32) (row : List ℕ) (wide : length row ≡ COLUMNS) where
-  pub fine-of-tests : Fits row → Tests gap row → rowFault gap row ≡ Fine
+  pub fine-of-tests : Caps row → Tests gap row → rowFault gap row ≡ Fine
   fine-of-tests fit t = plain-iff gap g row wide .1 (fits-range row fit, plain-of gap row fit t)
 
   pub tests-of-fine : rowFault gap row ≡ Fine → Tests gap row
   tests-of-fine e = tests-of gap row (plain-iff gap g row wide .0 e .1)
 
-  pub fits-of-fine : rowFault gap row ≡ Fine → Fits row
+  pub fits-of-fine : rowFault gap row ≡ Fine → Caps row
   fits-of-fine e = let h = plain-iff gap g row wide .0 e in fits-of gap row (h .0) (h .1)

@@ -14,8 +14,8 @@ use Rattle.copy_meaning.specs.ReadRow.{wordsAt, halvesAt}
 unfoldable pub caps : List ℕ
 caps = take FIRST columnLimits ++ replicate 9 2
 
-unfoldable pub Fits : List ℕ → Type 0
-Fits row = (c : ℕ) → c < COLUMNS → at row c < getD caps c 0
+unfoldable pub Caps : List ℕ → Type 0
+Caps row = (c : ℕ) → c < COLUMNS → at row c < getD caps c 0
 
 -- a row with a mark or a kind is live and has one kind; an empty row opens and ends its call; the multiplicities
 pub record Flags (first end single set write firstWrite mu muCom muComWide count : ℕ) : Type 0 where

@@ -10,7 +10,7 @@ ghost use Rattle.copy_row.specs.Columns.{COUNT, SINGLE, COLUMNS};
 ghost use Rattle.copy_residues.specs.RowCheck.{rowFault};
 ghost use Rattle.copy_residues.specs.declared.RowFault.the-variants.{Fine};
 ghost use Rattle.copy_meaning.specs.ReadRow.{TwoWords, FourHalves, wordsAt, halvesAt};
-ghost use Rattle.plain_row.specs.Tests.{Fits, FlagsAt, MovesAt, CountsAt, ResultAt, GapAt, TailAt};
+ghost use Rattle.plain_row.specs.Tests.{Caps, FlagsAt, MovesAt, CountsAt, ResultAt, GapAt, TailAt};
 use crate::tests;
 use copy_row::cols;
 
@@ -70,7 +70,7 @@ const CAPS: [u64; 41] = [
 // Each column lies below its cap. No early way out: joined so, columns of one cap are compared at once.
 fn fits(row: &[u64]) -> bool
     requires { ⌜ length (now row) ≡ COLUMNS ⌝ }
-    ensures { λ r. ⌜ ((r ≡ true) ↔ Fits (now (row .entry))) ⌝ }
+    ensures { λ r. ⌜ ((r ≡ true) ↔ Caps (now (row .entry))) ⌝ }
 {
     let caps = CAPS;
     let mut ok = true;
@@ -117,7 +117,7 @@ fn tail(row: &[u64]) -> bool
 
 fn flags_at(row: &[u64], count: u64) -> bool
     requires { ⌜ (length (now row) ≡ COLUMNS) × (count ≡ wordsAt (now row) COUNT) ⌝ }
-    requires { ⌜ Fits (now row) ⌝ }
+    requires { ⌜ Caps (now row) ⌝ }
     ensures { λ r. ⌜ ((r ≡ true) ↔ FlagsAt (now (row .entry))) ⌝ }
 {
     tests::flags(
@@ -137,7 +137,7 @@ fn flags_at(row: &[u64], count: u64) -> bool
 // SRC or DST, its words at c.
 fn moves_at(row: &[u64], c: usize, count: u64) -> bool
     requires { ⌜ (length (now row) ≡ COLUMNS) × (c + 5 < COLUMNS) × (count ≡ wordsAt (now row) COUNT) ⌝ }
-    requires { ⌜ Fits (now row) × TwoWords (now row) c × FourHalves (now row) (c + 2) ⌝ }
+    requires { ⌜ Caps (now row) × TwoWords (now row) c × FourHalves (now row) (c + 2) ⌝ }
     ensures { λ r. ⌜ ((r ≡ true) ↔ MovesAt (now (row .entry)) c) ⌝ }
 {
     let x = words_at(row, c);
@@ -147,7 +147,7 @@ fn moves_at(row: &[u64], c: usize, count: u64) -> bool
 
 fn counts_at(row: &[u64], count: u64) -> bool
     requires { ⌜ (length (now row) ≡ COLUMNS) × (count ≡ wordsAt (now row) COUNT) ⌝ }
-    requires { ⌜ Fits (now row) ⌝ }
+    requires { ⌜ Caps (now row) ⌝ }
     ensures { λ r. ⌜ ((r ≡ true) ↔ CountsAt (now (row .entry))) ⌝ }
 {
     let next = halves_at(row, cols::COUNT_DECR_0);
@@ -156,7 +156,7 @@ fn counts_at(row: &[u64], count: u64) -> bool
 
 fn results_at(row: &[u64], count: u64) -> bool
     requires { ⌜ (length (now row) ≡ COLUMNS) × (count ≡ wordsAt (now row) COUNT) ⌝ }
-    requires { ⌜ Fits (now row) ⌝ }
+    requires { ⌜ Caps (now row) ⌝ }
     ensures { λ r. ⌜ ((r ≡ true) ↔ ResultAt (now (row .entry))) ⌝ }
 {
     let dst = words_at(row, cols::DST_0);
@@ -166,7 +166,7 @@ fn results_at(row: &[u64], count: u64) -> bool
 
 fn gapped_at(gap: u64, row: &[u64]) -> bool
     requires { ⌜ length (now row) ≡ COLUMNS ⌝ }
-    requires { ⌜ Fits (now row) ⌝ }
+    requires { ⌜ Caps (now row) ⌝ }
     ensures { λ r. ⌜ ((r ≡ true) ↔ GapAt gap (now (row .entry))) ⌝ }
 {
     let src = words_at(row, cols::SRC_0);
@@ -177,7 +177,7 @@ fn gapped_at(gap: u64, row: &[u64]) -> bool
 // The sums, bits and conditions of a row whose columns fit.
 fn tests_hold(gap: u64, row: &[u64]) -> bool
     requires { ⌜ (gap < 2 ^ 32) × (length (now row) ≡ COLUMNS) ⌝ }
-    requires { ⌜ Fits (now row) ⌝ }
+    requires { ⌜ Caps (now row) ⌝ }
     ensures { λ r. ⌜ ((r ≡ true) ↔ (rowFault gap (now (row .entry)) ≡ Fine)) ⌝ }
 {
     let count = words_at(row, cols::COUNT_0);

@@ -1,20 +1,37 @@
--- What one row does to a lent buffer: definitions that the contracts of internal functions cite. Assumes nothing.
-use Prim.Native.Nat.{ℕ, _<_}
-use mathlib.Core.Bool.{Bool, _&&_}
-use mathlib.Core.List.{List}
-use lib.Dec.{eqb}
-use Rattle.lists.specs.Lists.{at}
-use Rattle.copy_row.specs.Columns.{FIRST, MU}
-use Rattle.plain_row.specs.Tests.{Fits}
-use Rattle.read_back.specs.ReadBack.{rowAt, rowsIn}
+-- One walk over the rows reads the operation records, another the calls: what each takes of a row. The contracts of internal functions
+-- cite these. Assumes nothing.
+use mathlib.Core.Path.{_≡_}
+use Prim.Native.Nat.{ℕ, _%_}
+use mathlib.Core.Bool.{Bool, cond}
+use mathlib.Core.List.{List, flatMap}
+use lib.ListN.{length}
+use Rattle.lists.specs.Lists.{All, kept}
+use Rattle.call.specs.Ops.{opRecord, OP-WIDTH}
+use Rattle.call.specs.Flat.{callNumbers, CALL-WIDTH}
+use Rattle.copy_row.specs.Columns.{COLUMNS}
+use Rattle.copy_meaning.specs.ReadRow.{callAt, opAt}
+use Rattle.plain_row.specs.Tests.{Caps}
+use Rattle.chain.specs.Chain.{tableRows}
+use Rattle.read_back.specs.ReadBack.{isLive, isOpening}
 
--- whether a row is live, and whether it is a call's first
-abbrev pub isLive : List ℕ → Bool
-isLive row = eqb (at row MU) 1
+-- whether a row is read, what of it, and how many numbers that is
+abbrev pub isRead : Bool → List ℕ → Bool
+isRead calls row = cond calls (isOpening row) (isLive row)
 
-abbrev pub isOpening : List ℕ → Bool
-isOpening row = isLive row && eqb (at row FIRST) 1
+abbrev pub numbersOf : Bool → List ℕ → List ℕ
+numbersOf calls row = cond calls (callNumbers (callAt row)) (opRecord (opAt row))
 
--- the columns of every row lie below their caps
-abbrev pub RowsFit : List ℕ → Type 0
-RowsFit l = (k : ℕ) → k < rowsIn l → Fits (rowAt l k)
+abbrev pub widthOf : Bool → ℕ
+widthOf calls = cond calls CALL-WIDTH OP-WIDTH
+
+-- the rows that are read, and all numbers of them
+unfoldable pub rowsRead : Bool → List ℕ → List (List ℕ)
+rowsRead calls l = kept (isRead calls) (tableRows l)
+
+unfoldable pub numbersRead : Bool → List ℕ → List ℕ
+numbersRead calls l = flatMap (numbersOf calls) (rowsRead calls l)
+
+-- a list of whole rows, the columns of each below their caps
+pub record RowsFit (l : List ℕ) : Type 0 where
+  pub whole : length l % COLUMNS ≡ 0
+  pub caps : All Caps (tableRows l)

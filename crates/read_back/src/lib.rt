@@ -5,52 +5,32 @@ pub mod rows;
 use answer::Answer;
 use answer::accept;
 use answer::refuse;
+use chain::ChainRefusal;
+use chain::refusal_numbers;
 ghost use mathlib.Core.Path.{_≡_};
-ghost use lib.ListN.{length};
-ghost use Rattle.read_back.specs.Counts.{countsAfter};
-ghost use Rattle.read_back.specs.ReadBack.{readBackAnswer, readBackNumbers, opsAfter, callsAfter};
+ghost use Rattle.read_back.specs.ReadBack.{readBackNumbers, ReadDone, countsAfter};
 
 pub enum ReadBackAnswer {
     // nothing is refused: how many operation records and calls are written
     Read { ops: u64, calls: u64 },
-    // 7: the gap is 2^32 or more
-    GapTooLarge,
-    // 13: the list is not a multiple of 41
-    NotRows,
-    // 14: a number not below p
-    BadElement { row: u64 },
-    // 15: a column out of range
-    BadRange { row: u64 },
-    // 16: a residue not 0
-    BadResidue { row: u64, index: u64 },
-    // 17: a row that may not stand where it stands
-    LinkBroken { row: u64 },
-    // 18: the list ends on a live row without END
-    NotEnded { rows: u64 },
+    // 7 and 13 to 18: what the chain check refuses, as it refuses it
+    Refused { why: ChainRefusal },
     // 9: a buffer shorter than the result
     BufferShort,
 }
 
 // Checks the chain, then 9; then writes the records into `ops` and the calls into `calls`. A refusal writes nothing.
 pub fn read_back(gap: u64, rows: &[u64], ops: &mut [u64], calls: &mut [u64]) -> ReadBackAnswer
-    ensures answer { λ r. ⌜ readBackNumbers r ≡ readBackNumbers (readBackAnswer gap (now (rows .entry)) (length (now (ops .entry))) (length (now (calls .entry)))) ⌝ }
-    ensures ops { λ r. ⌜ now (ops .exit) ≡ opsAfter (readBackAnswer gap (now (rows .entry)) (length (now (ops .entry))) (length (now (calls .entry)))) (now (rows .entry)) (now (ops .entry)) ⌝ }
-    ensures calls { λ r. ⌜ now (calls .exit) ≡ callsAfter (readBackAnswer gap (now (rows .entry)) (length (now (ops .entry))) (length (now (calls .entry)))) (now (rows .entry)) (now (calls .entry)) ⌝ }
+    ensures { λ r. ⌜ ReadDone gap (now (rows .entry)) (now (ops .entry)) (now (calls .entry)) (readBackNumbers r) (now (ops .exit)) (now (calls .exit)) ⌝ }
 {
     let answer = rows::answer(gap, rows, ops.len(), calls.len());
     match answer {
         ReadBackAnswer::Read { ops: _, calls: _ } => {
-            rows::write_ops(rows, ops);
-            rows::write_calls(rows, calls);
+            rows::write(rows, false, ops);
+            rows::write(rows, true, calls);
             answer
         }
-        ReadBackAnswer::GapTooLarge => answer,
-        ReadBackAnswer::NotRows => answer,
-        ReadBackAnswer::BadElement { row: _ } => answer,
-        ReadBackAnswer::BadRange { row: _ } => answer,
-        ReadBackAnswer::BadResidue { row: _, index: _ } => answer,
-        ReadBackAnswer::LinkBroken { row: _ } => answer,
-        ReadBackAnswer::NotEnded { rows: _ } => answer,
+        ReadBackAnswer::Refused { why: _ } => answer,
         ReadBackAnswer::BufferShort => answer,
     }
 }
@@ -66,17 +46,7 @@ pub fn read_back_numbers(a: ReadBackAnswer, counts: &mut [u64; 2]) -> Answer
             *counts = [ops, calls];
             accept(ops)
         }
-        ReadBackAnswer::GapTooLarge => refuse(7, 0),
-        ReadBackAnswer::NotRows => refuse(13, 0),
-        ReadBackAnswer::BadElement { row } => refuse(14, row),
-        ReadBackAnswer::BadRange { row } => refuse(15, row),
-        ReadBackAnswer::BadResidue { row, index } => Answer {
-            number: 16,
-            place: row,
-            value: index,
-        },
-        ReadBackAnswer::LinkBroken { row } => refuse(17, row),
-        ReadBackAnswer::NotEnded { rows } => refuse(18, rows),
+        ReadBackAnswer::Refused { why } => refusal_numbers(why),
         ReadBackAnswer::BufferShort => refuse(9, 0),
     }
 }

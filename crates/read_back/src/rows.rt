@@ -1,25 +1,28 @@
-// Internal to the workspace, not open to callers: how many records and calls a row list has, and writing them. Assumes nothing but what
-// each `requires` says.
+// Internal to the workspace, not open to callers: how many records and calls a row list has, and writing them. `calls` says which of the
+// two is read. Assumes nothing but what each `requires` says.
 ghost use mathlib.Core.Path.{_≡_};
 ghost use mathlib.Core.Bool.{true};
-ghost use Prim.Native.Nat.{_+_, _*_, _^_, _≤_, _<_};
+ghost use Prim.Native.Nat.{_+_, _*_, _/_, _≤_};
 ghost use lib.ListN.{length};
 ghost use Rattle.lists.specs.Lists.{store, oneMore, placed};
-ghost use Rattle.call.specs.Ops.{opRecord, OP-WIDTH};
-ghost use Rattle.call.specs.Flat.{CALL-WIDTH, callNumbers};
+ghost use Rattle.call.specs.Ops.{opRecord};
+ghost use Rattle.call.specs.Flat.{callNumbers};
 ghost use Rattle.copy_row.specs.Columns.{COLUMNS};
 ghost use Rattle.copy_meaning.specs.ReadRow.{callAt, opAt};
-ghost use Rattle.plain_row.specs.Tests.{Fits};
-ghost use Rattle.read_back.specs.ReadBack.{rowAt, rowsIn, opsCount, callsCount, readOps, readCalls, roomAnswer, readBackAnswer};
-ghost use Rattle.read_back.specs.Steps.{isLive, isOpening, RowsFit};
+ghost use Rattle.plain_row.specs.Tests.{Caps};
+ghost use Rattle.read_back.specs.ReadBack.{roomAnswer, readBackAnswer};
+ghost use Rattle.read_back.specs.Steps.{isRead, numbersOf, widthOf, rowsRead, numbersRead, RowsFit};
 use crate::ReadBackAnswer;
 use call::CALL_WIDTH;
 use call::OP_WIDTH;
 use chain::ChainAnswer;
 use chain::check::check;
 use copy_row::cols;
-use lists::slices::put;
+use copy_row::cols::NUM_COLUMNS;
+use lists::slices::one_more;
+use lists::slices::put_at;
 use plain_row::row::words_at;
+use records::tables::record_at;
 
 // The answer for lent buffers of so many numbers.
 pub fn answer(gap: u64, rows: &[u64], ops: usize, calls: usize) -> ReadBackAnswer
@@ -27,22 +30,17 @@ pub fn answer(gap: u64, rows: &[u64], ops: usize, calls: usize) -> ReadBackAnswe
 {
     match check(gap, rows) {
         ChainAnswer::Passed { rows: _ } => room_answer(rows, ops, calls),
-        ChainAnswer::GapTooLarge => ReadBackAnswer::GapTooLarge,
-        ChainAnswer::NotRows => ReadBackAnswer::NotRows,
-        ChainAnswer::BadElement { row } => ReadBackAnswer::BadElement { row },
-        ChainAnswer::BadRange { row } => ReadBackAnswer::BadRange { row },
-        ChainAnswer::BadResidue { row, index } => ReadBackAnswer::BadResidue { row, index },
-        ChainAnswer::LinkBroken { row } => ReadBackAnswer::LinkBroken { row },
-        ChainAnswer::NotEnded { rows: ended } => ReadBackAnswer::NotEnded { rows: ended },
+        ChainAnswer::Refused { why } => ReadBackAnswer::Refused { why },
     }
 }
 
 // The answer of a list that passes the chain check.
 fn room_answer(rows: &[u64], ops: usize, calls: usize) -> ReadBackAnswer
+    requires { ⌜ RowsFit (now rows) ⌝ }
     ensures { λ r. ⌜ r ≡ roomAnswer (now (rows .entry)) ops calls ⌝ }
 {
-    let o = ops_count(rows);
-    let c = calls_count(rows);
+    let o = count(rows, false);
+    let c = count(rows, true);
     if (OP_WIDTH * o <= ops) & (CALL_WIDTH * c <= calls) {
         return ReadBackAnswer::Read {
             ops: o as u64,
@@ -52,133 +50,71 @@ fn room_answer(rows: &[u64], ops: usize, calls: usize) -> ReadBackAnswer
     ReadBackAnswer::BufferShort
 }
 
-// How many rows are live.
-fn ops_count(rows: &[u64]) -> usize
-    ensures { λ r. ⌜ (r ≡ opsCount (now (rows .entry))) × (r ≤ rowsIn (now (rows .entry))) ⌝ }
+// How many rows are read.
+fn count(rows: &[u64], calls: bool) -> usize
+    requires { ⌜ RowsFit (now rows) ⌝ }
+    ensures { λ r. ⌜ (r ≡ length (rowsRead calls (now (rows .entry)))) × (r ≤ length (now (rows .entry)) / COLUMNS) ⌝ }
 {
-    let n = rows.len() / 41;
+    let n = rows.len() / NUM_COLUMNS;
     let mut j: usize = 0;
     let mut k: usize = 0;
     while k < n {
-        j = one_more(is_live(row_at(rows, k)), j);
+        j = one_more(is_read(record_at(rows, NUM_COLUMNS, k), calls), j);
         k += 1;
     }
     j
 }
 
-// How many rows are a call's first.
-fn calls_count(rows: &[u64]) -> usize
-    ensures { λ r. ⌜ (r ≡ callsCount (now (rows .entry))) × (r ≤ rowsIn (now (rows .entry))) ⌝ }
-{
-    let n = rows.len() / 41;
-    let mut j: usize = 0;
-    let mut k: usize = 0;
-    while k < n {
-        j = one_more(is_opening(row_at(rows, k)), j);
-        k += 1;
-    }
-    j
-}
-
-fn one_more(wanted: bool, j: usize) -> usize
-    requires { ⌜ j < 2 ^ 63 ⌝ }
-    ensures { λ r. ⌜ r ≡ oneMore wanted j ⌝ }
-{
-    if wanted {
-        return j + 1;
-    }
-    j
-}
-
-fn row_at(rows: &[u64], k: usize) -> &[u64]
-    requires { ⌜ k < rowsIn (now rows) ⌝ }
-    ensures { λ r. ⌜ (now r ≡ rowAt (now (rows .entry)) k) × (length (now r) ≡ COLUMNS) ⌝ }
-{
-    &rows[41 * k..41 * k + 41]
-}
-
-fn is_live(row: &[u64]) -> bool
+// Every live row has a record, and every row that is a call's first a call.
+fn is_read(row: &[u64], calls: bool) -> bool
     requires { ⌜ length (now row) ≡ COLUMNS ⌝ }
-    ensures { λ r. ⌜ r ≡ isLive (now (row .entry)) ⌝ }
+    ensures { λ r. ⌜ r ≡ isRead calls (now (row .entry)) ⌝ }
 {
+    if calls {
+        return (row[cols::MU] == 1) & (row[cols::FIRST] == 1);
+    }
     row[cols::MU] == 1
 }
 
-fn is_opening(row: &[u64]) -> bool
-    requires { ⌜ length (now row) ≡ COLUMNS ⌝ }
-    ensures { λ r. ⌜ r ≡ isOpening (now (row .entry)) ⌝ }
-{
-    (row[cols::MU] == 1) & (row[cols::FIRST] == 1)
-}
-
-// Writes the operation record of every live row.
-pub fn write_ops(rows: &[u64], ops: &mut [u64])
+// Writes the numbers of every row that is read.
+pub fn write(rows: &[u64], calls: bool, out: &mut [u64])
     requires { ⌜ RowsFit (now rows) ⌝ }
-    requires { ⌜ OP-WIDTH * opsCount (now rows) ≤ length (now ops) ⌝ }
-    ensures { λ _. ⌜ now (ops .exit) ≡ store (now (ops .entry)) 0 (readOps (now (rows .entry))) ⌝ }
+    requires { ⌜ widthOf calls * length (rowsRead calls (now rows)) ≤ length (now out) ⌝ }
+    ensures { λ _. ⌜ now (out .exit) ≡ store (now (out .entry)) 0 (numbersRead calls (now (rows .entry))) ⌝ }
 {
-    let n = rows.len() / 41;
+    let n = rows.len() / NUM_COLUMNS;
     let mut j: usize = 0;
     let mut k: usize = 0;
     while k < n {
-        let row = row_at(rows, k);
-        j = put_op(row, j, ops);
+        let row = record_at(rows, NUM_COLUMNS, k);
+        j = put_row(row, calls, j, out);
         k += 1;
     }
 }
 
-// Writes the five numbers of every call.
-pub fn write_calls(rows: &[u64], calls: &mut [u64])
-    requires { ⌜ RowsFit (now rows) ⌝ }
-    requires { ⌜ CALL-WIDTH * callsCount (now rows) ≤ length (now calls) ⌝ }
-    ensures { λ _. ⌜ now (calls .exit) ≡ store (now (calls .entry)) 0 (readCalls (now (rows .entry))) ⌝ }
+// Writes the numbers of a row, if it is read, behind those of the j before it.
+fn put_row(row: &[u64], calls: bool, j: usize, out: &mut [u64]) -> usize
+    requires { ⌜ (length (now row) ≡ COLUMNS) × Caps (now row) ⌝ }
+    requires { ⌜ (isRead calls (now row) ≡ true → widthOf calls * j + widthOf calls ≤ length (now out)) ⌝ }
+    ensures count { λ r. ⌜ r ≡ oneMore (isRead calls (now (row .entry))) j ⌝ }
+    ensures out { λ r. ⌜ now (out .exit) ≡ placed (isRead calls (now (row .entry))) (widthOf calls) j (numbersOf calls (now (row .entry))) (now (out .entry)) ⌝ }
 {
-    let n = rows.len() / 41;
-    let mut j: usize = 0;
-    let mut k: usize = 0;
-    while k < n {
-        let row = row_at(rows, k);
-        j = put_call(row, j, calls);
-        k += 1;
+    if !is_read(row, calls) {
+        return j;
     }
-}
-
-// Writes the record of a live row behind the j before it.
-fn put_op(row: &[u64], j: usize, ops: &mut [u64]) -> usize
-    requires { ⌜ (length (now row) ≡ COLUMNS) × Fits (now row) ⌝ }
-    requires { ⌜ (isLive (now row) ≡ true → OP-WIDTH * j + OP-WIDTH ≤ length (now ops)) ⌝ }
-    ensures count { λ r. ⌜ r ≡ oneMore (isLive (now (row .entry))) j ⌝ }
-    ensures ops { λ r. ⌜ now (ops .exit) ≡ placed (isLive (now (row .entry))) OP-WIDTH j (opRecord (opAt (now (row .entry)))) (now (ops .entry)) ⌝ }
-{
-    if is_live(row) {
-        let record = op_record(row);
-        put(&mut ops[OP_WIDTH * j..OP_WIDTH * j + OP_WIDTH], &record);
-        return j + 1;
-    }
-    j
-}
-
-// Writes the call of its first row behind the j before it.
-fn put_call(row: &[u64], j: usize, calls: &mut [u64]) -> usize
-    requires { ⌜ (length (now row) ≡ COLUMNS) × Fits (now row) ⌝ }
-    requires { ⌜ (isOpening (now row) ≡ true → CALL-WIDTH * j + CALL-WIDTH ≤ length (now calls)) ⌝ }
-    ensures count { λ r. ⌜ r ≡ oneMore (isOpening (now (row .entry))) j ⌝ }
-    ensures calls { λ r. ⌜ now (calls .exit) ≡ placed (isOpening (now (row .entry))) CALL-WIDTH j (callNumbers (callAt (now (row .entry)))) (now (calls .entry)) ⌝ }
-{
-    if is_opening(row) {
+    if calls {
         let record = call_record(row);
-        put(
-            &mut calls[CALL_WIDTH * j..CALL_WIDTH * j + CALL_WIDTH],
-            &record,
-        );
+        put_at(out, CALL_WIDTH * j, &record);
         return j + 1;
     }
-    j
+    let record = op_record(row);
+    put_at(out, OP_WIDTH * j, &record);
+    j + 1
 }
 
 // The operation record that a row shows.
 fn op_record(row: &[u64]) -> [u64; 16]
-    requires { ⌜ (length (now row) ≡ COLUMNS) × Fits (now row) ⌝ }
+    requires { ⌜ (length (now row) ≡ COLUMNS) × Caps (now row) ⌝ }
     ensures { λ r. ⌜ r ≡ opRecord (opAt (now (row .entry))) ⌝ }
 {
     let call = call_record(row);
@@ -204,7 +140,7 @@ fn op_record(row: &[u64]) -> [u64; 16]
 
 // The call that a row shows: kind, timestamp, src, dst, count.
 fn call_record(row: &[u64]) -> [u64; 5]
-    requires { ⌜ (length (now row) ≡ COLUMNS) × Fits (now row) ⌝ }
+    requires { ⌜ (length (now row) ≡ COLUMNS) × Caps (now row) ⌝ }
     ensures { λ r. ⌜ r ≡ callNumbers (callAt (now (row .entry))) ⌝ }
 {
     [

@@ -1,14 +1,15 @@
 -- Laws of the list of a list's records: one more record in front, and parts that are joined come back as they were. Assumes nothing.
-use mathlib.Core.Path.{_≡_, refl, sym, ap, _∙_}
+use mathlib.Core.Path.{_≡_, refl, sym, ap, subst, _∙_}
 use mathlib.Core.List.{List, [], _∷_, _++_, map, flatMap}
-use Prim.Native.Nat.{ℕ, suc, _+_, _-_, _*_, _/_, _≤_, _<_}
-use native.Mathlib.Nat.{mul-one, mul-suc, mul-add-div, mul-zero}
+use Prim.Native.Nat.{ℕ, suc, _+_, _-_, _*_, _/_, _%_, _≤_, _<_}
+use native.Mathlib.Nat.{mul-comm, mul-one, mul-suc, mul-add-div, mul-zero, zero-add, div-add-mod'}
 use native.Mathlib.Omega.{arith}
 use lib.ListN.{length, take, drop, length-append}
 use lib.Seq.{take-at, drop-at, drop-drop}
 use Rattle.lists.specs.Lists.{All, listed}
+use Rattle.lists.proofs.Flat.{row-within}
 use Rattle.lists.proofs.Joined.{flatMap-length}
-use Rattle.lists.proofs.Listed.{listed-same, all-listed}
+use Rattle.lists.proofs.Listed.{listed-same, all-listed, each-listed}
 use Rattle.records.specs.Records.{recordCount, recordAt, recordsIn}
 use Rattle.records.proofs.Records.{record-count, record-length}
 
@@ -51,3 +52,20 @@ module _ (w : ℕ) (pos : 0 < w) where
 
   pub joined-count : {A : Type 0} (f : A → List ℕ) (xs : List A) → All (λ (x : A). length (f x) ≡ w) xs → recordCount w (flatMap f xs) ≡ length xs
   joined-count f xs wide = record-count w (length xs) (flatMap f xs) pos (flatMap-length w f xs wide)
+
+  -- of a list that is whole records, each is whole
+  pub records-whole : (l : List ℕ) → length l % w ≡ 0 → All (λ (r : List ℕ). length r ≡ w) (recordsIn w l)
+  unfolding recordsIn
+  records-whole l whole =
+      all-listed (λ (r : List ℕ). length r ≡ w) (recordAt w l) 0 (recordCount w l) (λ k a b. record-length w l k (ends k (omega arith)))
+    where
+      split : length l ≡ w * (length l / w)
+      split = omega (arith, div-add-mod' (length l) w, mul-comm w (length l / w), whole)
+
+      ends : (k : ℕ) → k < recordCount w l → w * k + w ≤ length l
+      ends k h = omega (arith, split, row-within w k (length l / w) (omega (arith, record-count w (length l / w) l pos split)))
+
+-- what holds of all records holds of each
+pub each-record : (w : ℕ) (P : List ℕ → Type 0) (l : List ℕ) → All P (recordsIn w l) → (k : ℕ) → k < recordCount w l → P (recordAt w l k)
+unfolding recordsIn
+each-record w P l all k h = subst (λ (j : ℕ). P (recordAt w l j)) (zero-add k) (each-listed P (recordAt w l) 0 (recordCount w l) all k h)

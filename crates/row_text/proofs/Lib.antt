@@ -1,3 +1,4 @@
 pub mod Digits
 pub mod Wrote
 pub mod Fields
+pub mod Computing

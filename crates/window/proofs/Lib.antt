@@ -1,2 +1,3 @@
 pub mod Window
 pub mod SingleCells
+pub mod Computing

@@ -4,7 +4,7 @@ use Prim.Native.Nat.{_-_, _≤_}
 use native.Mathlib.Omega.{arith}
 use borrow.Author.Needs.{needs}
 use lib.ListN.{length, drop}
-use Rattle.line_text.specs.Pieces.{same}
+use Rattle.lists.specs.Lists.{same}
 use Rattle.line_text.proofs.Pieces.{same-length, same-stop, same-more, same-end}
 use Rattle.line_text.proofs.is_same.Statement.{statement}
 use Rattle.line_text.proofs.is_same.Tie as tie

@@ -3,7 +3,7 @@ use Prim.Native.Nat.{ℕ}
 use mathlib.Core.Path.{sym, ap, _∙_}
 use mathlib.Core.List.{List}
 use borrow.Author.Needs.{needs}
-use Rattle.line_text.specs.Pieces.{same}
+use Rattle.lists.specs.Lists.{same}
 use Rattle.line_text.specs.Numbers.{numberOf}
 use Rattle.line_text.specs.Lines.{gapWord}
 use Rattle.line_text.proofs.Forms.{gap-whole, gap-other}

@@ -1,67 +1,68 @@
 -- `read_back::read_back` meets its contract: an answer that is no refusal says that every row fits and that both buffers hold the result.
 -- Assumes nothing.
-use mathlib.Core.Path.{sym, ap, _∙_}
+use mathlib.Core.Path.{_≡_, sym, ap, _∙_}
+use mathlib.Core.List.{List}
+use Prim.Native.Nat.{ℕ}
 use borrow.Author.Needs.{needs}
 use denote.Ref.{now}
 use lib.ListN.{length}
 use Rattle.read_back.specs.ReadBack.{readBackAnswer, readBackNumbers, opsAfter, callsAfter}
-use Rattle.read_back.proofs.Read.{read-facts, ops-read, calls-read}
+use Rattle.read_back.specs.declared.ReadBackAnswer.{ReadBackAnswer}
+use Rattle.read_back.proofs.Read.{ReadFacts, read-facts, ops-read, calls-read}
 use Rattle.read_back.proofs.read_back.Statement.{statement}
 use Rattle.read_back.proofs.read_back.Tie as tie
 
-write-ops-requires : tie.Need-write-ops-requires
-write-ops-requires c κs =
-    let a = c .before .before .before .before .before .before .before .args in
-    let f = read-facts (a .gap) (now (a .rows)) (length (now (a .ops))) (length (now (a .calls))) _ _ (sym (c .before .before .before .answer .ensures) ∙ c .before .enum-told .given .1) in
-    (f .fit, f .holds-ops)
+-- Places: the answer is known; the entry; the answer is a result; the operation records are written
 
-write-calls-requires : tie.Need-write-calls-requires
-write-calls-requires c κs =
-    let a = c .before .before .before .before .before .before .before .before .before .before .before .args in
-    let f = read-facts (a .gap) (now (a .rows)) (length (now (a .ops))) (length (now (a .calls))) _ _ (sym (c .before .before .before .before .before .before .before .answer .ensures) ∙ c .before .before .before .before .before .enum-told .given .1) in
-    (f .fit, f .holds-calls)
+abbrev entry-of : tie.After-answer → tie.Start
+entry-of c = let known = c .before .before in known .before .before
 
-returns : tie.Need-returns
-returns c =
-    let a = c .before .before .before .before .before .before .before .before .before .before .before .before .before .before .args in
-    let l = now (a .rows) in
-    let answer = readBackAnswer (a .gap) l (length (now (a .ops))) (length (now (a .calls))) in
-    let told = sym (c .before .before .before .before .before .before .before .before .before .before .answer .ensures) ∙ c .before .before .before .before .before .before .before .before .enum-told .given .1 in (
-      ap readBackNumbers (c .before .before .before .before .before .before .before .before .before .before .answer .ensures),
-      (c .before .before .before .before .before .before .write-ops .ensures ∙ ops-read answer l (now (a .ops)) _ _ told, c .before .before .write-calls .ensures ∙ calls-read answer l (now (a .calls)) _ _ told),
-    )
+abbrev told-of : tie.After-write → tie.After-enum-told
+told-of c = c .before .before
+
+abbrev answer-of : tie.After-enum-told → tie.After-answer
+answer-of c = c .before .before
+
+abbrev ops-of : tie.After-write2 → tie.After-write
+ops-of c = let lent = c .before in lent .before .before .before
+
+module _ (c : tie.After-answer) where
+  abbrev l : List ℕ
+  l = now (entry-of c .args .rows)
+
+  abbrev opsIn : List ℕ
+  opsIn = now (entry-of c .args .ops)
+
+  abbrev callsIn : List ℕ
+  callsIn = now (entry-of c .args .calls)
+
+  abbrev answer : ReadBackAnswer
+  answer = readBackAnswer (entry-of c .args .gap) l (length opsIn) (length callsIn)
+
+  numbers : readBackNumbers (c .answer .result) ≡ readBackNumbers answer
+  numbers = ap readBackNumbers (c .answer .ensures)
+
+module _ (c : tie.After-enum-told) where
+  abbrev at : tie.After-answer
+  at = answer-of c
+
+  facts : ReadFacts (entry-of at .args .gap) (l at) (length (opsIn at)) (length (callsIn at))
+  facts = read-facts (entry-of at .args .gap) (l at) (length (opsIn at)) (length (callsIn at)) _ _
+      (sym (at .answer .ensures) ∙ c .enum-told .given .1)
 
 returns-2 : tie.Need-returns-2
 unfolding opsAfter callsAfter
-returns-2 c = let told = sym (c .before .before .answer .ensures) ∙ c .enum-told2 .given .1 in (ap readBackNumbers (c .before .before .answer .ensures), (rw told, rw told))
+returns-2 c =
+    let at = c .before .before in
+    let told = sym (at .answer .ensures) ∙ c .enum-told2 .given .1 in
+    record { answer = numbers at; ops-left = rw told; calls-left = rw told }
 
 returns-3 : tie.Need-returns-3
 unfolding opsAfter callsAfter
-returns-3 c = let told = sym (c .before .before .answer .ensures) ∙ c .enum-told3 .given .1 in (ap readBackNumbers (c .before .before .answer .ensures), (rw told, rw told))
-
-returns-4 : tie.Need-returns-4
-unfolding opsAfter callsAfter
-returns-4 c = let told = sym (c .before .before .answer .ensures) ∙ c .enum-told4 .given .1 in (ap readBackNumbers (c .before .before .answer .ensures), (rw told, rw told))
-
-returns-5 : tie.Need-returns-5
-unfolding opsAfter callsAfter
-returns-5 c = let told = sym (c .before .before .answer .ensures) ∙ c .enum-told5 .given .1 in (ap readBackNumbers (c .before .before .answer .ensures), (rw told, rw told))
-
-returns-6 : tie.Need-returns-6
-unfolding opsAfter callsAfter
-returns-6 c = let told = sym (c .before .before .answer .ensures) ∙ c .enum-told6 .given .1 in (ap readBackNumbers (c .before .before .answer .ensures), (rw told, rw told))
-
-returns-7 : tie.Need-returns-7
-unfolding opsAfter callsAfter
-returns-7 c = let told = sym (c .before .before .answer .ensures) ∙ c .enum-told7 .given .1 in (ap readBackNumbers (c .before .before .answer .ensures), (rw told, rw told))
-
-returns-8 : tie.Need-returns-8
-unfolding opsAfter callsAfter
-returns-8 c = let told = sym (c .before .before .answer .ensures) ∙ c .enum-told8 .given .1 in (ap readBackNumbers (c .before .before .answer .ensures), (rw told, rw told))
-
-returns-9 : tie.Need-returns-9
-unfolding opsAfter callsAfter
-returns-9 c = let told = sym (c .before .before .answer .ensures) ∙ c .enum-told9 .given .1 in (ap readBackNumbers (c .before .before .answer .ensures), (rw told, rw told))
+returns-3 c =
+    let at = c .before .before in
+    let told = sym (at .answer .ensures) ∙ c .enum-told3 .given .1 in
+    record { answer = numbers at; ops-left = rw told; calls-left = rw told }
 
 pub read-back-spec : {M : Type 1} → statement M
 read-back-spec =
@@ -69,24 +70,18 @@ read-back-spec =
     (tie.spec
     (λ c κs. search needs)
     (λ c. search needs)
-    write-ops-requires
-    write-calls-requires
+    (λ c κs. let f = facts (c .before) in (f .fit, f .holds-ops))
+    (λ c κs. let wrote = c .before .before .before in let f = facts (told-of wrote) in (f .fit, f .holds-calls))
     (λ c. search needs)
     (λ c. search needs)
     (λ c. search needs)
     (λ c. search needs)
-    (λ c. search needs)
-    (λ c. search needs)
-    (λ c. search needs)
-    (λ c. search needs)
-    (λ c. search needs)
-    (λ c. search needs)
-    returns
+    (λ c. let calls = c .before .before in let ops = ops-of calls in let told = told-of ops in let at = answer-of told in
+    let read = sym (at .answer .ensures) ∙ told .enum-told .given .1 in
+    record {
+      answer = numbers at;
+      ops-left = ops .write .ensures ∙ ops-read (answer at) (l at) (opsIn at) _ _ read;
+      calls-left = calls .write2 .ensures ∙ calls-read (answer at) (l at) (callsIn at) _ _ read;
+    })
     returns-2
-    returns-3
-    returns-4
-    returns-5
-    returns-6
-    returns-7
-    returns-8
-    returns-9)
+    returns-3)

@@ -1,16 +1,18 @@
--- `check::check`: the answer is that of the rows from row k on, with the row before in hand; each way out is what the finding on row k makes
--- of it. The inner search is the one that names the lowest residue. Assumes nothing.
+-- `check::check`: a walk over the rows with the row before in hand; each way out is what the finding on row k makes of the answer. The
+-- inner search is the one that names the lowest residue. Assumes nothing.
 use mathlib.Core.Path.{_≡_, refl, sym, ap, _∙_}
 use mathlib.Core.Logic.{⊎-elim}
+use mathlib.Core.List.{List}
 use Prim.Native.Nat.{ℕ, _≤_, _-_}
-use native.Mathlib.Nat.{sub-zero}
 use native.Mathlib.Omega.{arith}
 use borrow.Author.Needs.{needs}
-use borrow.Author.Tests.{le-leb, lt-leb, eq-eqb, ne-eqb, not-true, not-false}
+use borrow.Author.Tests.{not-true, not-false}
+use denote.Ref.{now}
 use lib.ListN.{length}
 use Rattle.lists.specs.Lists.{first}
 use Rattle.lists.proofs.First.{first-miss, first-hit, first-end}
 use Rattle.copy_row.specs.Columns.{COLUMNS}
+use Rattle.copy_residues.specs.Cells.{Elements}
 use Rattle.copy_residues.specs.Residues.{residue, RESIDUES}
 use Rattle.copy_residues.specs.RowCheck.{firstResidue, rowFault}
 use Rattle.copy_residues.specs.declared.RowFault.the-variants.{Fine, NotZero}
@@ -18,10 +20,8 @@ use Rattle.copy_residues.proofs.InRange.{elements}
 use Rattle.copy_residues.proofs.ZeroResidues.{notZero, found, passed}
 use Rattle.copy_residues.proofs.RowFaults.{not-element, out-of-range, not-zero, fine}
 use Rattle.plain_row.proofs.Same.{fits-of-fine}
-use Rattle.chain.specs.Chain.{chainAnswer, chainFrom}
-use Rattle.chain.specs.Standing.{standing, Stood}
-use Rattle.chain.proofs.Links.{standing-none, stood-none, stood-row}
-use Rattle.chain.proofs.Rows.{rowAt, restAt, row-length, from-element, from-range, from-residue, from-broken, from-step, from-unended, from-end}
+use Rattle.chain.specs.Chain.{chainAnswer}
+use Rattle.chain.proofs.Rows.{rowAt, row-length, Walk, gap-large, not-rows, walk-start, from-element, from-range, from-residue, from-broken, walk-on, from-unended, from-end}
 use Rattle.chain.proofs.check.check.Statement.{statement}
 use Rattle.chain.proofs.check.check.Tie as tie
 
@@ -33,99 +33,116 @@ abbrev μ-loop : tie.MeasureT-loop
 μ-loop gap rows n previous k row parts i₀ i = RESIDUES - i
 
 abbrev Inv-rows : tie.InvT-rows
-Inv-rows gap rows n previous₀ k₀ previous k =
-    (k ≤ n) × (Stood previous × (chainAnswer gap rows ≡ chainFrom gap (standing previous) k (restAt rows k)))
+Inv-rows gap rows n previous₀ k₀ previous k = Walk gap rows previous k
 
 abbrev μ-rows : tie.MeasureT-rows
 μ-rows gap rows n previous₀ k₀ previous k = n - k
 
--- row k has 41 numbers
-wide : (c : tie.Else3 Inv-loop μ-loop Inv-rows μ-rows) → length (rowAt (c .before .before .before .before .before .before .args .rows .now) (c .before .rows .k)) ≡ COLUMNS
-wide c = row-length (c .before .before .before .before .before .before .args .rows .now) (c .before .rows .k) (omega arith)
+-- Places: the loop's top, row k in hand, its numbers tested, its columns tested, its parts at hand, residue i worked out
+
+abbrev Top : Type 0
+Top = tie.At-rows Inv-loop μ-loop Inv-rows μ-rows
+
+abbrev Row : Type 0
+Row = tie.After-record-at Inv-loop μ-loop Inv-rows μ-rows
+
+abbrev Large : Type 0
+Large = tie.After-first-large Inv-loop μ-loop Inv-rows μ-rows
+
+abbrev Out : Type 0
+Out = tie.After-first-out Inv-loop μ-loop Inv-rows μ-rows
+
+abbrev Parts : Type 0
+Parts = tie.After-parts-of Inv-loop μ-loop Inv-rows μ-rows
+
+abbrev Residue : Type 0
+Residue = tie.After-residue-with Inv-loop μ-loop Inv-rows μ-rows
+
+abbrev Joined : Type 0
+Joined = tie.Joined5 Inv-loop μ-loop Inv-rows μ-rows
+
+abbrev entry-of : Top → tie.Start Inv-loop μ-loop Inv-rows μ-rows
+entry-of c = let past = c .before .before .before in past .before .before
+
+abbrev gap-of : Top → ℕ
+gap-of c = entry-of c .args .gap
+
+abbrev rows-of : Top → List ℕ
+rows-of c = now (entry-of c .args .rows)
+
+abbrev top-of : Row → Top
+top-of c = c .before .before
+
+abbrev large-row : Large → Row
+large-row c = c .before .before .before
+
+abbrev out-large : Out → Large
+out-large c = c .before .before
+
+abbrev parts-out : Parts → Out
+parts-out c = c .before .before
+
+abbrev residue-parts : Residue → Parts
+residue-parts c = c .before .before .before
+
+abbrev joined-row : Joined → Row
+joined-row c = c .before .before
+
+-- The row in hand
+
+abbrev row-of : Row → List ℕ
+row-of c = now (c .record-at .result)
+
+wide : (c : Row) → length (row-of c) ≡ COLUMNS
+wide c = ap length (c .record-at .ensures) ∙ row-length (rows-of (top-of c)) (top-of c .rows .k) (omega arith)
+
+-- its numbers are elements once the first test is passed
+elements-of : (c : Out) → Elements (row-of (large-row (out-large c)))
+elements-of c = elements _ (wide (large-row (out-large c))) (rw (← out-large c .first-large .ensures) (c .before .if6 .left))
 
 -- where the arms of the quick test meet, the row has no fault
-fine-row : (c : tie.Joined5 Inv-loop μ-loop Inv-rows μ-rows) → rowFault (c .before .before .before .before .before .before .before .before .before .args .gap) (rowAt (c .before .before .before .before .before .before .before .before .before .args .rows .now) (c .before .before .before .before .rows .k)) ≡ Fine
+fine-row : (c : Joined) → rowFault (gap-of (top-of (joined-row c))) (row-of (joined-row c)) ≡ Fine
 unfolding firstResidue
 fine-row c =
     ⊎-elim
     (λ w.
     let e : w .6 .i ≡ RESIDUES = omega (arith, w .7 .left, w .6 .inv .0) in
-    fine _ _ (wide (c .before .before .before)) (rw (← w .1 .ensures) (w .2 .left)) (rw (← w .3 .ensures) (w .4 .left))
+    fine _ _ (wide (joined-row c)) (rw (← w .1 .ensures) (w .2 .left)) (rw (← w .3 .ensures) (w .4 .left))
     (omega (arith, w .6 .inv .1 ∙ first-end _ _ _ (omega arith), e)))
     (λ w. c .before .is-plain .ensures .0 (not-false _ (w .left)))
     (c .if5 .came)
 
 -- what is compared with 0 is residue i
-right : (c : tie.After-residue-with Inv-loop μ-loop Inv-rows μ-rows)
-    → c .residue-with .result
-    ≡ residue (c .before .before .before .before .before .before .before .before .before .before .before .before .before .before .before .before .before .args .gap) (rowAt (c .before .before .before .before .before .before .before .before .before .before .before .before .before .before .before .before .before .args .rows .now) (c .before .before .before .before .before .before .before .before .before .before .before .before .rows .k)) (c .before .before .loop .i)
+right : (c : Residue) → let at = large-row (out-large (parts-out (residue-parts c))) in
+    c .residue-with .result ≡ residue (gap-of (top-of at)) (row-of at) (c .before .before .loop .i)
 right c =
-    c .residue-with .ensures
-    ∙ ap (λ (g : ℕ). residue g (rowAt (c .before .before .before .before .before .before .before .before .before .before .before .before .before .before .before .before .before .args .rows .now) (c .before .before .before .before .before .before .before .before .before .before .before .before .rows .k)) (c .before .before .loop .i)) (c .before .before .before .parts-of .ensures .1)
+    let parts = residue-parts c in
+    let row = row-of (large-row (out-large (parts-out parts))) in
+    c .residue-with .ensures ∙ ap (λ (g : ℕ). residue g row (c .before .before .loop .i)) (parts .parts-of .ensures .1)
 
-returns : tie.Need-returns Inv-loop μ-loop Inv-rows μ-rows
-unfolding chainAnswer
-returns c = rw (le-leb _ _ (c .if1 .taken))
+-- The ways out of a row
 
-returns-2 : tie.Need-returns-2 Inv-loop μ-loop Inv-rows μ-rows
-unfolding chainAnswer
-returns-2 c = rw (lt-leb _ _ (c .before .if1 .left), ne-eqb _ _ (c .if2 .taken))
+module _ (c : Row) where
+  abbrev at : Top
+  at = top-of c
 
-rows-holds : tie.Need-rows-holds Inv-loop μ-loop Inv-rows μ-rows
-unfolding chainAnswer
-rows-holds c =
-    (omega arith, (stood-none _ refl, rw (lt-leb _ _ (c .before .before .if1 .left), eq-eqb _ _ (c .before .if2 .left), standing-none _ refl, sub-zero)))
+  abbrev walk : Walk (gap-of at) (rows-of at) (now (at .rows .previous)) (at .rows .k)
+  walk = at .rows .inv
 
-parts-of-requires : tie.Need-parts-of-requires Inv-loop μ-loop Inv-rows μ-rows
-parts-of-requires c κs = (elements _ (wide (c .before .before .before .before .before .before .before)) (rw (← c .before .before .before .first-large .ensures) (c .before .before .if6 .left)), omega arith)
+  abbrev is : row-of c ≡ rowAt (rows-of at) (at .rows .k)
+  is = c .record-at .ensures
 
-residue-with-requires : tie.Need-residue-with-requires Inv-loop μ-loop Inv-rows μ-rows
-residue-with-requires c κs = (
-  elements _ (wide (c .before .before .before .before .before .before .before .before .before .before)) (rw (← c .before .before .before .before .before .before .first-large .ensures) (c .before .before .before .before .before .if6 .left)),
-  c .before .before .parts-of .ensures .0,
-  omega arith,
-)
-
-loop-again : tie.Need-loop-again Inv-loop μ-loop Inv-rows μ-rows
-loop-again c = (omega arith, c .before .before .before .loop .inv .1 ∙ first-miss _ _ _ (omega arith) (passed (right (c .before)) (c .if8 .left)))
-
-linked-requires : tie.Need-linked-requires Inv-loop μ-loop Inv-rows μ-rows
-linked-requires c κs =
-    let w = wide (c .before .before .before) in
-    ((w, fits-of-fine _ (omega arith) _ w (fine-row c)), c .before .before .before .before .rows .inv .1 .0)
-
-rows-again : tie.Need-rows-again Inv-loop μ-loop Inv-rows μ-rows
-rows-again c =
-    let w = wide (c .before .before .before .before .before) in
-    let f = fine-row (c .before .before) in (
-      omega arith,
-      (
-        stood-row _ w (fits-of-fine _ (omega arith) _ w f),
-        from-step _ _ _ _ _ (c .before .before .before .before .before .before .rows .inv .1 .1) (omega arith) f (sym (c .before .linked .ensures) ∙ not-false _ (c .if9 .left)),
-      ),
-    )
-
-returns-5 : tie.Need-returns-5 Inv-loop μ-loop Inv-rows μ-rows
-returns-5 c =
-    from-element _ _ _ _ _ (c .before .before .before .before .before .before .rows .inv .1 .1) (omega arith) (not-element _ _ (wide (c .before .before .before .before .before)) (rw (← c .before .first-large .ensures) (c .if6 .taken)))
-
-returns-6 : tie.Need-returns-6 Inv-loop μ-loop Inv-rows μ-rows
-returns-6 c =
-    from-range _ _ _ _ _ (c .before .before .before .before .before .before .before .before .rows .inv .1 .1) (omega arith)
-    (out-of-range _ _ (wide (c .before .before .before .before .before .before .before)) (rw (← c .before .before .before .first-large .ensures) (c .before .before .if6 .left)) (rw (← c .before .first-out .ensures) (c .if7 .taken)))
-
-returns-7 : tie.Need-returns-7 Inv-loop μ-loop Inv-rows μ-rows
+-- a residue that is not 0 is the lowest such
+lowest : (c : Residue) (other : c .residue-with .result ≡ 0 → ⊥) → let out = parts-out (residue-parts c) in let row = large-row (out-large out) in
+    rowFault (gap-of (top-of row)) (row-of row) ≡ NotZero (c .before .before .loop .i)
 unfolding firstResidue
-returns-7 c =
-    let l = c .before .before .before .loop in
-    let i = l .inv .1 ∙ first-hit _ _ _ (omega arith) (found (right (c .before)) (c .if8 .taken)) in
-    from-residue _ _ _ _ _ (c .before .before .before .before .before .before .before .before .before .before .before .before .before .rows .inv .1 .1) (omega arith) _
-    (not-zero _ _ (wide (c .before .before .before .before .before .before .before .before .before .before .before .before)) (rw (← c .before .before .before .before .before .before .before .before .first-large .ensures) (c .before .before .before .before .before .before .before .if6 .left)) (rw (← c .before .before .before .before .before .before .first-out .ensures) (c .before .before .before .before .before .if7 .left)) (omega (arith, i))
-    ∙ ap NotZero i)
-
-returns-8 : tie.Need-returns-8 Inv-loop μ-loop Inv-rows μ-rows
-returns-8 c =
-    from-broken _ _ _ _ _ (c .before .before .before .before .before .before .rows .inv .1 .1) (omega arith) (fine-row (c .before .before)) (sym (c .before .linked .ensures) ∙ not-true _ (c .if9 .taken))
+lowest c other =
+    let out = parts-out (residue-parts c) in
+    let i = c .before .before .loop .inv .1 ∙ first-hit _ _ _ (omega arith) (found (right c) other) in
+    let large = out-large out in
+    not-zero _ _ (wide (large-row large)) (rw (← large .first-large .ensures) (out .before .if6 .left))
+    (rw (← out .first-out .ensures) (residue-parts c .before .if7 .left)) (omega (arith, i))
+    ∙ ap NotZero i
 
 pub check-spec : {M : Type 1} → statement M
 check-spec =
@@ -135,36 +152,47 @@ check-spec =
     μ-loop
     Inv-rows
     μ-rows
-    returns
-    returns-2
-    (λ c. search needs)
-    (λ c. search needs)
-    (λ c. search needs)
-    rows-holds
-    (λ c κs. c .before .rows .inv .1 .0)
-    (λ c. search needs)
-    (λ c. search needs)
-    (λ c. search needs)
-    (λ c. search needs)
-    (λ c. search needs)
-    (λ c. search needs)
-    (λ c. search needs)
-    (λ c κs. (omega arith, wide (c .before)))
     (λ c κs. search needs)
-    (λ c κs. wide (c .before .before .before .before .before))
-    parts-of-requires
+    (λ c. c .refused .ensures ∙ gap-large _ _ (c .before .if1 .taken))
+    (λ c κs. search needs)
+    (λ c. c .refused2 .ensures ∙ not-rows _ _ (c .before .before .if1 .left) (c .before .if2 .taken))
+    (λ c. search needs)
+    (λ c. search needs)
+    (λ c. search needs)
+    (λ c. walk-start _ _ (c .before .before .if1 .left) (c .before .if2 .left))
+    (λ c κs. c .before .rows .inv .stood)
+    (λ c κs. search needs)
+    (λ c κs. search needs)
+    (λ c κs. (omega arith, wide c))
+    (λ c κs. search needs)
+    (λ c κs. search needs)
+    (λ c κs. wide (large-row (c .before)))
+    (λ c κs. search needs)
+    (λ c κs. (elements-of (c .before), omega arith))
     (λ c. (omega arith, refl))
-    residue-with-requires
+    (λ c κs. let parts = c .before .before in (elements-of (parts-out parts), parts .parts-of .ensures .0, omega arith))
+    (λ c κs. search needs)
     (λ c. search needs)
     (λ c. search needs)
-    loop-again
-    linked-requires
+    (λ c. (omega arith, c .before .before .before .loop .inv .1 ∙ first-miss _ _ _ (omega arith) (passed (right (c .before)) (c .if8 .left))))
+    (λ c κs. let row = joined-row c in ((wide row, fits-of-fine _ (omega arith) _ (wide row) (fine-row c)), walk row .stood))
+    (λ c κs. search needs)
     (λ c. search needs)
     (λ c. search needs)
-    rows-again
-    (λ c. from-unended _ _ _ (c .before .before .before .before .before .before .before .before .args .rows .now) _ (c .before .before .before .rows .inv .1 .1) (omega arith) (sym (c .before .unended .ensures) ∙ c .if4 .taken))
-    (λ c. from-end _ _ _ (c .before .before .before .before .before .before .before .before .args .rows .now) _ (c .before .before .before .rows .inv .1 .1) (omega arith) (sym (c .before .unended .ensures) ∙ c .if4 .left))
-    returns-5
-    returns-6
-    returns-7
-    returns-8)
+    (λ c. let j = c .before .before in let row = joined-row j in
+    walk-on _ _ _ _ (walk row) (omega arith) _ (is row) (fine-row j) (omega arith) (wide row) (sym (c .before .linked .ensures) ∙ not-false _ (c .if9 .left)))
+    (λ c. let past = c .before .before in let top = past .before .before in
+    c .refused3 .ensures ∙ from-unended _ _ _ _ (top .rows .inv) (omega arith) (sym (past .unended .ensures) ∙ c .before .if4 .taken))
+    (λ c. let top = c .before .before .before in from-end _ _ _ _ (top .rows .inv) (omega arith) (sym (c .before .unended .ensures) ∙ c .if4 .left))
+    (λ c. let large = c .before .before in let row = large-row large in
+    c .refused4 .ensures
+    ∙ from-element _ _ _ _ (walk row) (omega arith) _ (is row) (not-element _ _ (wide row) (rw (← large .first-large .ensures) (c .before .if6 .taken))))
+    (λ c. let out = c .before .before in let large = out-large out in let row = large-row large in
+    c .refused5 .ensures
+    ∙ from-range _ _ _ _ (walk row) (omega arith) _ (is row)
+    (out-of-range _ _ (wide row) (rw (← large .first-large .ensures) (out .before .if6 .left)) (rw (← out .first-out .ensures) (c .before .if7 .taken))))
+    (λ c. let residue = c .before .before in let row = large-row (out-large (parts-out (residue-parts residue))) in
+    c .refused6 .ensures ∙ from-residue _ _ _ _ (walk row) (omega arith) _ (is row) _ (lowest residue (c .before .if8 .taken)))
+    (λ c. let linked = c .before .before in let j = linked .before in let row = joined-row j in
+    c .refused7 .ensures
+    ∙ from-broken _ _ _ _ (walk row) (omega arith) _ (is row) (fine-row j) (sym (linked .linked .ensures) ∙ not-true _ (c .before .if9 .taken))))

@@ -10,7 +10,7 @@ use lib.ListN.{getD}
 use Rattle.lists.specs.Lists.{at}
 use Rattle.copy_row.specs.Columns.{COLUMNS}
 use Rattle.copy_residues.specs.Range.{columnLimits}
-use Rattle.plain_row.specs.Tests.{caps, Fits}
+use Rattle.plain_row.specs.Tests.{caps, Caps}
 use Rattle.plain_row.proofs.Booleans.{and-true, true-and}
 use Rattle.plain_row.proofs.Columns.{fits-more}
 use Rattle.plain_row.proofs.row.fits.Statement.{statement}
@@ -36,7 +36,7 @@ loop-again c =
     )
 
 returns : tie.Need-returns Inv-loop μ-loop
-unfolding Fits caps columnLimits
+unfolding Caps caps columnLimits
 returns c = (
   λ h j l. c .before .loop .inv .1 .0 h j (omega arith),
   λ q. c .before .loop .inv .1 .1 (λ j l. q j (omega arith)),

@@ -4,11 +4,16 @@ use mathlib.Core.List.{List}
 use Prim.Native.Nat.{ℕ}
 use borrow.Author.Needs.{needs}
 use denote.Ref.{now}
-use Rattle.chain.specs.Chain.{chainAnswer}
+use Rattle.chain.specs.Chain.{chainAnswer, chainNumbers}
 use Rattle.chain.specs.declared.ChainAnswer.{ChainAnswer}
 use Rattle.read_back.specs.ReadBack.{roomAnswer, onChain, readBackAnswer}
+use Rattle.read_back.proofs.Read.{passed-fit}
 use Rattle.read_back.proofs.rows.answer.Statement.{statement}
 use Rattle.read_back.proofs.rows.answer.Tie as tie
+
+-- Place: the entry
+abbrev entry-of : tie.After-check → tie.Start
+entry-of c = c .before .before
 
 -- what the chain check says, and with it the answer
 chain-says : (gap : ℕ) (l : List ℕ) (ops calls : ℕ) (r told : ChainAnswer) → r ≡ chainAnswer gap l → r ≡ told
@@ -16,66 +21,16 @@ chain-says : (gap : ℕ) (l : List ℕ) (ops calls : ℕ) (r told : ChainAnswer)
 unfolding readBackAnswer
 chain-says gap l ops calls r told e t = ap (λ (x : ChainAnswer). onChain x (roomAnswer l ops calls)) (sym t ∙ e)
 
-returns : tie.Need-returns
-returns c =
-    let a = c .before .before .before .before .before .args in
-    c .room-answer .ensures
-    ∙ chain-says (a .gap) (now (a .rows)) (a .ops) (a .calls) _ _ (c .before .before .before .check .ensures) (c .before .enum-told .given .1)
-
-returns-2 : tie.Need-returns-2
-returns-2 c =
-    let a = c .before .before .before .before .args in
-    chain-says (a .gap) (now (a .rows)) (a .ops) (a .calls) _ _ (c .before .before .check .ensures) (c .enum-told2 .given .1)
-
-returns-3 : tie.Need-returns-3
-returns-3 c =
-    let a = c .before .before .before .before .args in
-    chain-says (a .gap) (now (a .rows)) (a .ops) (a .calls) _ _ (c .before .before .check .ensures) (c .enum-told3 .given .1)
-
-returns-4 : tie.Need-returns-4
-returns-4 c =
-    let a = c .before .before .before .before .before .args in
-    chain-says (a .gap) (now (a .rows)) (a .ops) (a .calls) _ _ (c .before .before .before .check .ensures) (c .before .row .given .1)
-
-returns-5 : tie.Need-returns-5
-returns-5 c =
-    let a = c .before .before .before .before .before .args in
-    chain-says (a .gap) (now (a .rows)) (a .ops) (a .calls) _ _ (c .before .before .before .check .ensures) (c .before .row2 .given .1)
-
-returns-6 : tie.Need-returns-6
-returns-6 c =
-    let a = c .before .before .before .before .before .args in
-    chain-says (a .gap) (now (a .rows)) (a .ops) (a .calls) _ _ (c .before .before .before .check .ensures) (c .before .row3 .given .1)
-
-returns-7 : tie.Need-returns-7
-returns-7 c =
-    let a = c .before .before .before .before .before .args in
-    chain-says (a .gap) (now (a .rows)) (a .ops) (a .calls) _ _ (c .before .before .before .check .ensures) (c .before .row4 .given .1)
-
-returns-8 : tie.Need-returns-8
-returns-8 c =
-    let a = c .before .before .before .before .before .args in
-    chain-says (a .gap) (now (a .rows)) (a .ops) (a .calls) _ _ (c .before .before .before .check .ensures) (c .before .ended .given .1)
-
 pub answer-spec : {M : Type 1} → statement M
 answer-spec =
     tie.close
     (tie.spec
     (λ c κs. search needs)
     (λ c. search needs)
-    (λ c κs. search needs)
+    (λ c κs. let check = c .before .before in let a = entry-of check .args in
+    passed-fit (a .gap) (now (a .rows)) (ap (λ (x : ChainAnswer). chainNumbers x .number) (sym (check .check .ensures) ∙ c .enum-told .given .1)))
     (λ c. search needs)
-    (λ c. search needs)
-    (λ c. search needs)
-    (λ c. search needs)
-    (λ c. search needs)
-    (λ c. search needs)
-    (λ c. search needs)
-    returns
-    returns-2
-    returns-3
-    returns-4
-    returns-5
-    returns-6
-    returns-7
-    returns-8)
+    (λ c. let told = c .before in let check = told .before .before in let a = entry-of check .args in
+    c .room-answer .ensures ∙ chain-says (a .gap) (now (a .rows)) (a .ops) (a .calls) _ _ (check .check .ensures) (told .enum-told .given .1))
+    (λ c. let check = c .before .before .before in let a = entry-of check .args in
+    chain-says (a .gap) (now (a .rows)) (a .ops) (a .calls) _ _ (check .check .ensures) (c .before .why .given .1)))

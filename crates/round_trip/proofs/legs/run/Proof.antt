@@ -69,7 +69,7 @@ returns c =
     let told = expanded-of (part-of made) in
     let start = start-of told in
     ran (trip-of start) (start .args .n) (start .args .rows) (start .pre) _ (told .expand-all .ensures) _
-    (made .generate-copy-trace .ensures .1) _ _ (back .read-back .ensures .1 .0) (back .read-back .ensures .1 .1)
+    (made .generate-copy-trace .ensures .1) _ _ (back .read-back .ensures .ops-left) (back .read-back .ensures .calls-left)
 
 pub run-spec : {M : Type 1} → statement M
 run-spec =

@@ -1,0 +1,83 @@
+-- A walk over the rows of a list that fits: what row k is, and that what is counted and written row by row is what the definitions say of
+-- the list. Assumes nothing.
+use mathlib.Core.Path.{_≡_, refl, sym, ap, subst, _∙_}
+use mathlib.Core.Bool.{Bool, true, false}
+use mathlib.Core.List.{List}
+use Prim.Native.Nat.{ℕ, _+_, _*_, _/_, _≤_, _<_}
+use native.Mathlib.Omega.{arith}
+use lib.ListN.{length}
+use Rattle.lists.specs.Lists.{store, oneMore, placed, picked, counted}
+use Rattle.lists.proofs.Joined.{flatMap-length, all-of}
+use Rattle.lists.proofs.Listed.{picked-kept, kept-count}
+use Rattle.records.specs.Records.{recordCount, recordAt, recordsIn}
+use Rattle.records.proofs.Records.{record-length}
+use Rattle.records.proofs.RecordList.{each-record}
+use Rattle.copy_row.specs.Columns.{COLUMNS}
+use Rattle.plain_row.specs.Tests.{Caps}
+use Rattle.read_back.specs.Steps.{isRead, numbersOf, widthOf, rowsRead, numbersRead, RowsFit}
+
+-- row k, whether it is read, and what of it
+abbrev pub rowAt : List ℕ → ℕ → List ℕ
+rowAt l k = recordAt COLUMNS l k
+
+abbrev pub readAt : Bool → List ℕ → ℕ → Bool
+readAt calls l k = isRead calls (rowAt l k)
+
+abbrev pub partAt : Bool → List ℕ → ℕ → List ℕ
+partAt calls l k = numbersOf calls (rowAt l k)
+
+pub numbers-wide : (calls : Bool) (row : List ℕ) → length (numbersOf calls row) ≡ widthOf calls
+numbers-wide true row = refl
+numbers-wide false row = refl
+
+module _ (l : List ℕ) (fit : RowsFit l) where
+  rows-counted : recordCount COLUMNS l ≡ length l / COLUMNS
+  rows-counted = omega (arith, fit .whole)
+
+  pub row-wide : (k : ℕ) → k < length l / COLUMNS → length (rowAt l k) ≡ COLUMNS
+  row-wide k h = record-length COLUMNS l k (omega arith)
+
+  pub row-caps : (k : ℕ) → k < length l / COLUMNS → Caps (rowAt l k)
+  row-caps k h = each-record COLUMNS Caps l (fit .caps) k (omega (arith, rows-counted))
+
+  module _ (calls : Bool) where
+    pub rows-read : length (rowsRead calls l) ≡ counted (readAt calls l) (length l / COLUMNS)
+    unfolding rowsRead recordsIn
+    rows-read = kept-count (isRead calls) (rowAt l) (recordCount COLUMNS l) ∙ ap (counted (readAt calls l)) rows-counted
+
+    pub numbers-read : picked (readAt calls l) (partAt calls l) (length l / COLUMNS) ≡ numbersRead calls l
+    unfolding numbersRead rowsRead recordsIn
+    numbers-read =
+        ap (picked (readAt calls l) (partAt calls l)) (sym rows-counted)
+        ∙ picked-kept (isRead calls) (numbersOf calls) (rowAt l) (recordCount COLUMNS l)
+
+-- as many numbers as rows and width say
+pub numbers-length : (calls : Bool) (l : List ℕ) → length (numbersRead calls l) ≡ widthOf calls * length (rowsRead calls l)
+unfolding numbersRead
+numbers-length calls l = flatMap-length (widthOf calls) (numbersOf calls) (rowsRead calls l) (all-of (numbers-wide calls) (rowsRead calls l))
+
+-- One row: passed over, or its numbers r of w, which are those of its kind, behind the j before it
+
+module _ (calls : Bool) (row out : List ℕ) (j : ℕ) where
+  pub passed-over : isRead calls row ≡ false
+      → (j ≡ oneMore (isRead calls row) j) × (out ≡ placed (isRead calls row) (widthOf calls) j (numbersOf calls row) out)
+  passed-over other =
+      (ap (λ (b : Bool). oneMore b j) (sym other), ap (λ (b : Bool). placed b (widthOf calls) j (numbersOf calls row) out) (sym other))
+
+  module _ (read : isRead calls row ≡ true) (which : Bool) (e : calls ≡ which) where
+    -- there is room for it
+    pub row-room : widthOf calls * j + widthOf calls ≤ length out → widthOf which * j + widthOf which ≤ length out
+    row-room = subst (λ (b : Bool). widthOf b * j + widthOf b ≤ length out) e
+
+    pub written-row : (r later : List ℕ) → r ≡ numbersOf which row → later ≡ store out (widthOf which * j) r
+        → (j + 1 ≡ oneMore (isRead calls row) j) × (later ≡ placed (isRead calls row) (widthOf calls) j (numbersOf calls row) out)
+    written-row r later is put = (
+      ap (λ (b : Bool). oneMore b j) (sym read),
+      put ∙ (λ i. store out (width i * j) (numbers i)) ∙ ap (λ (b : Bool). placed b (widthOf calls) j (numbersOf calls row) out) (sym read),
+    )
+      where
+        numbers : r ≡ numbersOf calls row
+        numbers = is ∙ ap (λ (b : Bool). numbersOf b row) (sym e)
+
+        width : widthOf which ≡ widthOf calls
+        width = ap widthOf (sym e)
