@@ -179,12 +179,12 @@ impl Script {
 }
 
 impl Part {
-    /// How a program's source calls it.
+    /// How a program's source calls it: an exported function stands in `exports` or in one of its modules.
     fn call(&self) -> String {
         match self.name {
-            "callcheck" => "call_lines::answer(".into(),
+            "callcheck" => "callcheck_text::answer(".into(),
             "round_trip" => "round_trip::round_trip(".into(),
-            name => format!("exports::{name}("),
+            name => format!("::{name}("),
         }
     }
 

@@ -1,7 +1,8 @@
-// The access record: which runs of numbers are one. Assumes nothing.
+// The access record: which runs of numbers are one; and the three tables that take accesses. Assumes nothing.
 ghost use mathlib.Core.Path.{_≡_};
 ghost use Rattle.access.specs.Access.{accessRecord, isWidth, goodAccess};
 ghost use Rattle.access.specs.RegisterAccess.{registerAccess};
+ghost use Rattle.access.specs.Tables.{recordWidth};
 use records::tables::within_limits;
 
 // Where the numbers stand in a record, by the names of `MemwOperation`; VALUE, OLD and OLD_TIMESTAMP are the first of eight.
@@ -23,6 +24,30 @@ pub const OLD_TIMESTAMP: usize = 21;
 
 // Numbers in a record.
 pub const ACCESS_WIDTH: usize = 29;
+
+// The three access tables. Each has a list of records of its own.
+pub enum AccessTable {
+    // memw.rs: bytes with different old stamps, or an unaligned access.
+    General,
+    // One old stamp, and an address that is a multiple of the width.
+    Aligned,
+    // Two words of a register, whose old stamp is close.
+    Register,
+}
+
+// Numbers in a record of the register table.
+pub const REGISTER_WIDTH: usize = 8;
+
+// Numbers in a record of a table's list.
+pub fn record_width(t: AccessTable) -> usize
+    ensures { λ r. ⌜ r ≡ recordWidth t ⌝ }
+{
+    match t {
+        AccessTable::General => ACCESS_WIDTH,
+        AccessTable::Aligned => ACCESS_WIDTH,
+        AccessTable::Register => REGISTER_WIDTH,
+    }
+}
 
 // The largest value of each number of a record.
 const ACCESS_LIMITS: [u64; 29] = [

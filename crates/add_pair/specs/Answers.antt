@@ -1,18 +1,18 @@
 -- What `add_pair` on flat operands answers and writes. A list that is not a flat operand is refused with 10, place 0, first; the rest is
 -- that of `emit_add_pair`: 12, 13, 14. Assumes nothing.
+use mathlib.Core.Path.{_≡_}
 use Prim.Native.Nat.{ℕ}
 use mathlib.Core.Bool.{Bool, true, false, cond, _&&_}
 use mathlib.Core.List.{List, [], _∷_}
 use Rattle.answer.specs.Numbers.{accepted, refused}
 use Rattle.answer.specs.declared.Answer.{Answer}
+use Rattle.field.specs.Rows.{onRow, rowRefusalNumbers}
 use Rattle.operands.specs.Pairs.{residueLo, residueHi, carryHi}
-use Rattle.operands.specs.Answers.{pairFault}
+use Rattle.operands.specs.Answers.{pairVerdict}
 use Rattle.operands.specs.declared.AddOperand.{AddOperand}
-use Rattle.operands.specs.declared.PairFault.{PairFault}
-use Rattle.operands.specs.declared.PairFault.the-variants as fault
 use Rattle.add_pair.specs.Flat.{flatForm, flatOperand}
 use Rattle.add_pair.specs.declared.AddPairAnswer.{AddPairAnswer}
-use Rattle.add_pair.specs.declared.AddPairAnswer.the-variants.{Written, Malformed, OutsideRow, NotRow, NotElement}
+use Rattle.add_pair.specs.declared.AddPairAnswer.the-variants.{Written, Malformed, Refused}
 use Rattle.add_pair.specs.declared.FlatForm.{FlatForm}
 use Rattle.add_pair.specs.declared.FlatForm.the-variants as form
 
@@ -25,15 +25,9 @@ isForm form.Malformed = false
 abbrev pub isOperand : List ℕ → Bool
 isOperand l = isForm (flatForm l)
 
-unfoldable pub answerOf : PairFault → AddPairAnswer
-answerOf fault.Fine = Written
-answerOf fault.OutsideRow = OutsideRow
-answerOf fault.NotRow = NotRow
-answerOf (fault.NotElement place) = NotElement place
-
 -- the answer for three operands, condition columns and a row
 unfoldable pub operandsAnswer : AddOperand → AddOperand → AddOperand → List ℕ → List ℕ → AddPairAnswer
-operandsAnswer lhs rhs sum conditions row = answerOf (pairFault conditions lhs rhs sum row)
+operandsAnswer lhs rhs sum conditions row = onRow (pairVerdict conditions lhs rhs sum row) Refused Written
 
 -- the answer for three lists
 unfoldable pub addPairAnswer : List ℕ → List ℕ → List ℕ → List ℕ → List ℕ → AddPairAnswer
@@ -51,9 +45,7 @@ pairNumbersOf lhs rhs sum conditions row =
 unfoldable pub outAfter : AddPairAnswer → List ℕ → List ℕ → List ℕ
 outAfter Written numbers out = numbers
 outAfter Malformed numbers out = out
-outAfter OutsideRow numbers out = out
-outAfter NotRow numbers out = out
-outAfter (NotElement place) numbers out = out
+outAfter (Refused why) numbers out = out
 
 unfoldable pub addPairAfter : List ℕ → List ℕ → List ℕ → List ℕ → List ℕ → List ℕ → List ℕ
 addPairAfter lhs rhs sum conditions row out =
@@ -64,6 +56,9 @@ addPairAfter lhs rhs sum conditions row out =
 abbrev pub addPairNumbers : AddPairAnswer → Answer
 addPairNumbers Written = accepted 0
 addPairNumbers Malformed = refused 10 0
-addPairNumbers OutsideRow = refused 12 0
-addPairNumbers NotRow = refused 13 0
-addPairNumbers (NotElement place) = refused 14 place
+addPairNumbers (Refused why) = rowRefusalNumbers why
+
+-- what `add_pair` has to show: its answer in these numbers, and the lent array when it is done
+pub record AddPairDone (lhs rhs sum conditions row out : List ℕ) (numbers : Answer) (after : List ℕ) : Type 0 where
+  pub answer : numbers ≡ addPairNumbers (addPairAnswer lhs rhs sum conditions row)
+  pub written : after ≡ addPairAfter lhs rhs sum conditions row out

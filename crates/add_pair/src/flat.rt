@@ -9,7 +9,8 @@ use operands::TermCell;
 ghost use mathlib.Core.Path.{_≡_};
 ghost use Rattle.lists.specs.Lists.{at};
 ghost use Rattle.operands.specs.Constructors.{dword};
-ghost use Rattle.add_pair.specs.Flat.{afterTerm, afterTerms, afterSum, isEnd, sumsForm, flatForm, signedOf, termFrom, termAfter, termOf, fourTerms, operandOf};
+ghost use Rattle.add_pair.specs.Flat.{afterTerm, afterTerms, afterSum, isEnd, sumsForm, flatForm};
+ghost use Rattle.add_pair.specs.Flat.{signedOf, termFrom, termAfter, termOf, fourTerms, operandOf};
 ghost use Rattle.add_pair.specs.Answers.{isForm};
 ghost use Rattle.add_pair.specs.declared.Walk.the-variants.{At};
 

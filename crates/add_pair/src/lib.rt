@@ -5,15 +5,17 @@ mod flat;
 use answer::Answer;
 use answer::accept;
 use answer::refuse;
+use field::rows::RowRefusal;
+use field::rows::RowVerdict;
+use field::rows::row_refusal_numbers;
 use flat::flat_form;
 use flat::is_form;
 use flat::operand_of;
 use operands::AddOperand;
-use operands::PairFault;
-use operands::judge::pair_fault;
+use operands::judge::pair_verdict;
 use operands::value::pair_values;
 ghost use mathlib.Core.Path.{_≡_};
-ghost use Rattle.add_pair.specs.Answers.{operandsAnswer, addPairAnswer, addPairAfter, pairNumbersOf, outAfter, addPairNumbers};
+ghost use Rattle.add_pair.specs.Answers.{operandsAnswer, pairNumbersOf, outAfter, addPairNumbers, AddPairDone};
 
 // Where reading a flat list stands.
 pub enum Walk {
@@ -33,9 +35,8 @@ pub enum AddPairAnswer {
     Written,
     // 10: a list that is no flat operand
     Malformed,
-    OutsideRow,
-    NotRow,
-    NotElement { place: u64 },
+    // 12, 13, 14
+    Refused { why: RowRefusal },
 }
 
 // The two residues and the high carry of lhs + rhs = sum, for operands that were read.
@@ -51,16 +52,13 @@ fn operands_pair(
     ensures out { λ r. ⌜ now (out .exit)
         ≡ outAfter r (pairNumbersOf lhs rhs sum (now (conditions .entry)) (now (row .entry))) (now (out .entry)) ⌝ }
 {
-    let found = pair_fault(conditions, lhs, rhs, sum, row);
-    match found {
-        PairFault::Fine => {
+    match pair_verdict(conditions, lhs, rhs, sum, row) {
+        RowVerdict::Fine => {
             let values = pair_values(conditions, lhs, rhs, sum, row);
             *out = [values.low, values.high, values.carry];
             AddPairAnswer::Written
         }
-        PairFault::OutsideRow => AddPairAnswer::OutsideRow,
-        PairFault::NotRow => AddPairAnswer::NotRow,
-        PairFault::NotElement { place } => AddPairAnswer::NotElement { place },
+        RowVerdict::Refused { why } => AddPairAnswer::Refused { why },
     }
 }
 
@@ -73,10 +71,8 @@ pub fn add_pair(
     row: &[u64],
     out: &mut [u64; 3],
 ) -> AddPairAnswer
-    ensures answer { λ r. ⌜ addPairNumbers r
-        ≡ addPairNumbers (addPairAnswer (now (lhs .entry)) (now (rhs .entry)) (now (sum .entry)) (now (conditions .entry)) (now (row .entry))) ⌝ }
-    ensures out { λ r. ⌜ now (out .exit)
-        ≡ addPairAfter (now (lhs .entry)) (now (rhs .entry)) (now (sum .entry)) (now (conditions .entry)) (now (row .entry)) (now (out .entry)) ⌝ }
+    ensures { λ r. ⌜ AddPairDone (now (lhs .entry)) (now (rhs .entry)) (now (sum .entry)) (now (conditions .entry)) (now (row .entry))
+        (now (out .entry)) (addPairNumbers r) (now (out .exit)) ⌝ }
 {
     let lhs_form = flat_form(lhs);
     let rhs_form = flat_form(rhs);
@@ -101,8 +97,6 @@ pub fn numbers(a: AddPairAnswer) -> Answer
     match a {
         AddPairAnswer::Written => accept(0),
         AddPairAnswer::Malformed => refuse(10, 0),
-        AddPairAnswer::OutsideRow => refuse(12, 0),
-        AddPairAnswer::NotRow => refuse(13, 0),
-        AddPairAnswer::NotElement { place } => refuse(14, place),
+        AddPairAnswer::Refused { why } => row_refusal_numbers(why),
     }
 }

@@ -5,8 +5,5 @@ use Rattle.answer.specs.declared.Answer.{Answer}
 pub number-same : {x y : Answer} → x ≡ y → x .number ≡ y .number
 number-same e = ap (λ (x : Answer). x .number) e
 
-pub place-same : {x y : Answer} → x ≡ y → x .place ≡ y .place
-place-same e = ap (λ (x : Answer). x .place) e
-
 pub value-same : {x y : Answer} → x ≡ y → x .value ≡ y .value
 value-same e = ap (λ (x : Answer). x .value) e

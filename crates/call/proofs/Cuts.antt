@@ -1,17 +1,41 @@
--- Laws of cuts: the cases of `Cut`, that a piece moves a byte, and that a row which does not wrap hands on what is left in plain sums.
--- Assumes nothing.
-use mathlib.Core.Path.{_≡_, refl}
+-- Laws of cuts: a row moves a byte and at most eight, what is behind the first width is a cut of what remains, the cases of `Cut`, and
+-- that a sound call has a row. Assumes nothing.
+use mathlib.Core.Path.{_≡_, refl, sym}
 use mathlib.Core.List.{List, [], _∷_}
 use mathlib.Core.Logic.{inl, inr}
-use Prim.Native.Nat.{ℕ, zero, suc, _+_, _<_}
+use Prim.Native.Nat.{ℕ, zero, suc, _+_, _-_, _≤_, _<_}
 use native.Mathlib.Omega.{arith}
 use lib.ListN.{length}
 use Rattle.lists.specs.Lists.{All}
 use Rattle.call.specs.Calls.{Piece}
-use Rattle.call.specs.Cuts.{PieceOk, CutCall, total, Cut, Fits, HasRow}
+use Rattle.call.specs.Cuts.{OneOrEight, CutInto, CutCall, total, Cut, Fits, HasRow}
 
-pub width-pos : {piece : Piece} → PieceOk piece → 0 < piece .width
-width-pos ok = elim (ok .wide) [ inl e ↦ omega arith | inr e ↦ omega arith ]
+-- Widths
+
+pub width-pos : {w : ℕ} → OneOrEight w → 0 < w
+width-pos wide = elim wide [ inl e ↦ omega arith | inr e ↦ omega arith ]
+
+pub width-eight : {w : ℕ} → OneOrEight w → w ≤ 8
+width-eight wide = elim wide [ inl e ↦ omega arith | inr e ↦ omega arith ]
+
+pub nothing-cut : {n : ℕ} → CutInto n [] → n ≡ 0
+nothing-cut k = sym (k .sums)
+
+-- the first of some widths, and those behind it
+module _ {n w : ℕ} {ws : List ℕ} (k : CutInto n (w ∷ ws)) where
+  pub first-pos : 0 < w
+  first-pos = width-pos (k .wide .0)
+
+  pub first-eight : w ≤ 8
+  first-eight = width-eight (k .wide .0)
+
+  pub first-within : w ≤ n
+  first-within = omega (arith, k .sums)
+
+  pub rest-cut : CutInto (n - w) ws
+  rest-cut = record { wide = k .wide .1; sums = omega (arith, k .sums) }
+
+-- Pieces
 
 -- the two ways of a cut
 pub data Ways (n : ℕ) (piece : Piece) (pieces : List Piece) : Type 0 where

@@ -19,9 +19,24 @@ instances =
       empty-wide = refl;
       empty-narrow = refl;
       empty-none = λ e. omega arith;
-      set-apart = record { words = record { kind = omega arith; stamp = omega arith; src = omega arith; dst = omega arith; count = omega arith }; reach = inl refl; gapped = λ e. refl };
+      set-apart =
+          record {
+            words = record { kind = omega arith; stamp = omega arith; src = omega arith; dst = omega arith; count = omega arith };
+            reach = inl refl;
+            gapped = λ e. refl;
+          };
       set-near = set-near;
-      to-top = record { words = record { kind = omega arith; stamp = omega arith; src = omega arith; dst = omega arith; count = omega arith }; reach = inr (omega arith, omega arith); gapped = λ e. omega arith };
+      to-top =
+          record {
+            words = record { kind = omega arith; stamp = omega arith; src = omega arith; dst = omega arith; count = omega arith };
+            reach = inr (omega arith, omega arith);
+            gapped = λ e. omega arith;
+          };
       past-top = past-top;
-      empty-top = record { words = record { kind = omega arith; stamp = omega arith; src = omega arith; dst = omega arith; count = omega arith }; reach = inl refl; gapped = λ e. omega arith };
+      empty-top =
+          record {
+            words = record { kind = omega arith; stamp = omega arith; src = omega arith; dst = omega arith; count = omega arith };
+            reach = inl refl;
+            gapped = λ e. omega arith;
+          };
     }

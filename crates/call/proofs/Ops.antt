@@ -8,7 +8,8 @@ use native.Mathlib.Omega.{arith}
 use lib.ListN.{length, getD, getD-replicate}
 use Rattle.lists.specs.Lists.{at}
 use Rattle.lists.proofs.Numbers.{eight-back}
-use Rattle.words.proofs.Digits.{Below, below-at}
+use Rattle.words.specs.Words.{Bytes}
+use Rattle.words.proofs.Digits.{below-at}
 use Rattle.records.proofs.Records.{within-length, within-all}
 use Rattle.call.specs.Calls.{Op}
 use Rattle.call.specs.Ops.{opRecord, opOf, OP-WIDTH, opLimits, goodOp}
@@ -39,7 +40,7 @@ pub record OpWithin (o : Op) : Type 0 where
   pub count : o .call .count < 2 ^ 64
   pub width : o .piece .width ≤ 255
   pub eight : length (o .piece .value) ≡ 8
-  pub bytes : Below 8 (o .piece .value)
+  pub bytes : Bytes (o .piece .value)
   pub first : o .first ≤ 1
   pub end : o .end ≤ 1
 
@@ -53,7 +54,7 @@ pub within-good : (o : Op) → OpWithin o → goodOp (opRecord o) ≡ true
 unfolding opLimits
 within-good o w = within-all opLimits (opRecord o) (op-record-length o (w .eight)) each
   where
-    each : (i : ℕ) → i < 16 → at (opRecord o) i ≤ getD opLimits i 0
+    each : (i : ℕ) → i < OP-WIDTH → at (opRecord o) i ≤ getD opLimits i 0
     each zero h = le-of-suc-le-suc (w .stamp)
     each (suc zero) h = le-of-suc-le-suc (w .src)
     each (suc (suc zero)) h = le-of-suc-le-suc (w .dst)

@@ -5,7 +5,8 @@ use mathlib.Core.Logic.{_⊎_}
 use mathlib.Core.List.{List, [], _∷_, _++_, map}
 use Prim.Native.Nat.{ℕ, zero, suc, _+_, _-_, _^_, _<_, _≤_}
 use lib.ListN.{length, drop, replicate}
-use Rattle.lists.specs.Lists.{All}
+use Rattle.lists.specs.Lists.{All, sum}
+use Rattle.words.specs.Words.{Bytes}
 use Rattle.call.specs.Calls.{Call, Piece, Op}
 
 -- a call and the pieces that its rows move, in order
@@ -41,10 +42,25 @@ callsOf ks = map (λ (k : CutCall). k .call) ks
 abbrev pub HasRow : CutCall → Type 0
 HasRow k = 0 < length (k .pieces)
 
+-- the pieces of operation records, and their widths
+abbrev pub piecesOf : List Op → List Piece
+piecesOf os = map (λ (o : Op). o .piece) os
+
+abbrev pub widthsIn : List Piece → List ℕ
+widthsIn pieces = map (λ (piece : Piece). piece .width) pieces
+
 -- the sum of the widths
 abbrev pub total : List Piece → ℕ
-total [] = 0
-total (piece ∷ pieces) = piece .width + total pieces
+total pieces = sum (widthsIn pieces)
+
+-- a row is 1 or 8 bytes wide
+abbrev pub OneOrEight : ℕ → Type 0
+OneOrEight w = (w ≡ 1) ⊎ (w ≡ 8)
+
+-- widths of 1 and 8 that sum to n
+pub record CutInto (n : ℕ) (ws : List ℕ) : Type 0 where
+  pub wide : All OneOrEight ws
+  pub sums : sum ws ≡ n
 
 -- the widths sum to the count n; a call of count 0 has one row
 abbrev pub Cut : ℕ → List Piece → Type 0
@@ -61,9 +77,9 @@ pub record Words (c : Call) : Type 0 where
 
 -- width 1 or 8 and eight bytes, "width 1 with seven zero tail bytes"
 pub record PieceOk (piece : Piece) : Type 0 where
-  pub wide : (piece .width ≡ 1) ⊎ (piece .width ≡ 8)
+  pub wide : OneOrEight (piece .width)
   pub eight : length (piece .value) ≡ 8
-  pub bytes : All (λ (b : ℕ). b < 256) (piece .value)
+  pub bytes : Bytes (piece .value)
   pub tail : piece .width ≡ 1 → drop 1 (piece .value) ≡ replicate 7 0
 
 -- document 01: "A call is sound if two things hold. Unless count is 0, src + count and dst + count are below 2^64. If Set, even with

@@ -1,8 +1,8 @@
 -- The loop of `count`, over plain lists and numbers: what holds at its head, that one record keeps it, and what it ends with. Assumes
 -- nothing.
-use mathlib.Core.Path.{_≡_, refl, sym, ap, _∙_}
+use mathlib.Core.Path.{_≡_, sym, ap, _∙_}
 use mathlib.Core.Bool.{Bool, true, false}
-use mathlib.Core.List.{List, [], _∷_}
+use mathlib.Core.List.{List, _∷_}
 use Prim.Native.Nat.{ℕ, _+_, _-_, _*_, _≤_, _<_}
 use native.Mathlib.Nat.{sub-zero}
 use native.Mathlib.Omega.{arith}
@@ -11,7 +11,6 @@ use Rattle.words.specs.Words.{bit}
 use Rattle.lists.specs.Lists.{listed}
 use Rattle.lists.proofs.Listed.{listed-left, listed-over}
 use Rattle.records.specs.Records.{recordCount, recordAt, recordsIn}
-use Rattle.call.specs.Calls.{Call}
 use Rattle.call.specs.Ops.{OP-WIDTH}
 use Rattle.call.specs.Flat.{HANDED-WIDTH}
 use Rattle.expansion.specs.Tries.{Setting, Lengths}

@@ -1,14 +1,13 @@
 -- One record of a flat list of calls: what it adds, writes and leaves, and what the records behind it then do. A record that is no call
 -- adds nothing. Assumes nothing.
-use mathlib.Core.Path.{_≡_, refl, sym, ap, ap₂, _∙_}
+use mathlib.Core.Path.{_≡_, refl, sym, ap, _∙_}
 use mathlib.Core.Bool.{Bool, true, false, cond}
-use mathlib.Core.List.{List, [], _∷_, _++_, flatMap}
-use Prim.Native.Nat.{ℕ, _+_, _-_, _*_, _≤_}
+use mathlib.Core.List.{List, [], _∷_, _++_}
+use Prim.Native.Nat.{ℕ, _+_, _-_, _*_}
 use native.Mathlib.Omega.{arith}
 use lib.Dec.{ltb}
 use lib.ListN.{length}
 use Rattle.words.specs.Words.{bit}
-use Rattle.call.specs.Calls.{Call}
 use Rattle.call.specs.Ops.{OP-WIDTH}
 use Rattle.call.specs.Flat.{callFrom, goodCall}
 use Rattle.expansion.specs.Tries.{Setting, Lent, Lengths, lengthsAre, lengths, tryOf}

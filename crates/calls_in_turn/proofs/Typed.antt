@@ -5,11 +5,12 @@ use mathlib.Core.Path.{_≡_, refl}
 use mathlib.Core.List.{List, [], _∷_}
 use Prim.Native.Nat.{ℕ}
 use Rattle.lists.specs.Lists.{All}
+use Rattle.words.specs.Words.{Bytes}
 use Rattle.call.specs.Calls.{Call}
 use Rattle.call.specs.Flat.{callFrom, goodCall}
 use Rattle.call.specs.Cuts.{Words}
 use Rattle.call.proofs.GoodCalls.{good-words}
-use Rattle.expansion_rows.specs.Inside.{Bytes}
+use Rattle.expansion_rows.specs.Rows.{widthsOf}
 use Rattle.expansion.specs.Tries.{Setting, Lent, Try, tryOf, Typed}
 use Rattle.expansion.specs.Expansion.{expanded, lentAfter}
 use Rattle.expansion.proofs.Outcome.{Refused, Taken, outcome}
@@ -33,7 +34,7 @@ module _ (s : Setting) where
     where
       go : Refused s t ⊎ Taken s t → Bytes (lentAfter s t .bytes)
       go (inl r) = rw (r .kept) h
-      go (inr k) = rw (k .after) (call-bytes (t .call) (t .slices .bytes) h)
+      go (inr k) = rw (k .after) (call-bytes (t .call) (widthsOf (t .call)) (t .slices .bytes) h)
 
   pub tries-typed : (cs : List Call) (l : Lent) → All Words cs → Bytes (l .bytes) → All Typed (triesOf s cs l)
   unfolding triesOf

@@ -28,7 +28,9 @@ fn expand_next(
     accesses: &mut [u64],
 ) -> usize
     requires { ⌜ OP-WIDTH * done ≤ length (now ops) ⌝ }
-    ensures { λ r. ⌜ Turned (under gap) (now (call .entry)) done (lent (now (bytes .entry)) (now (stamps .entry)) (now (ops .entry)) (now (accesses .entry))) (lent (now (bytes .exit)) (now (stamps .exit)) (now (ops .exit)) (now (accesses .exit))) r ⌝ }
+    ensures { λ r. ⌜ Turned (under gap) (now (call .entry)) done
+        (lent (now (bytes .entry)) (now (stamps .entry)) (now (ops .entry)) (now (accesses .entry)))
+        (lent (now (bytes .exit)) (now (stamps .exit)) (now (ops .exit)) (now (accesses .exit))) r ⌝ }
 {
     if !good_call(call) {
         return 0;
@@ -55,7 +57,9 @@ pub fn expand_all(
     ops: &mut [u64],
     accesses: &mut [u64],
 )
-    ensures { λ _. ⌜ lent (now (bytes .exit)) (now (stamps .exit)) (now (ops .exit)) (now (accesses .exit)) ≡ allExpanded (under gap) (callsIn (now (calls .entry))) (lent (now (bytes .entry)) (now (stamps .entry)) (now (ops .entry)) (now (accesses .entry))) ⌝ }
+    ensures { λ _. ⌜ lent (now (bytes .exit)) (now (stamps .exit)) (now (ops .exit)) (now (accesses .exit))
+        ≡ allExpanded (under gap) (callsIn (now (calls .entry)))
+        (lent (now (bytes .entry)) (now (stamps .entry)) (now (ops .entry)) (now (accesses .entry))) ⌝ }
 {
     let n = record_count(calls, HANDED_WIDTH);
     let mut done = 0;

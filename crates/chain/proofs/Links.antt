@@ -1,6 +1,6 @@
 -- The link rule by what stands before: the four ways in which the code decides it, and what the row before is to it. Assumes nothing.
 use mathlib.Core.Path.{_≡_, refl, ap, _∙_}
-use mathlib.Core.Bool.{Bool, true, false, cond, not, _&&_, _||_}
+use mathlib.Core.Bool.{Bool, true, false, cond, not, _&&_, _||_, and-assoc, and-true}
 use mathlib.Core.List.{List, [], _∷_}
 use Prim.Native.Nat.{ℕ, _<_}
 use native.Mathlib.Omega.{arith}
@@ -10,33 +10,22 @@ use lib.ListN.{length}
 use Rattle.lists.specs.Lists.{at, same}
 use Rattle.copy_row.specs.Columns.{TIMESTAMP, SRC, SRC-INCR, DST, DST-INCR, COUNT, COUNT-DECR, FIRST, END, IS-SET, IS-WRITE, MU, COLUMNS}
 use Rattle.copy_meaning.specs.ReadRow.{wordsAt, halvesAt}
-use Rattle.plain_row.specs.Tests.{Caps}
-use Rattle.chain.specs.Link.{closed, unended, dead, shown, handedOn, linked, before}
+use Rattle.row_test.specs.Caps.{Caps}
+use Rattle.chain.specs.Link.{closed, unended, dead, shown, handedOn, linked, beforeOf}
 use Rattle.chain.specs.Standing.{standing, Stood, isUnended}
 
 -- ---- seven equal numbers, as the code joins the tests
 
-seven-same : (a b c d e f g : Bool)
-    → (((((a && b) && c) && d) && e) && f) && g ≡ a && (b && (c && (d && (e && (f && (g && true))))))
-seven-same false b c d e f g = refl
-seven-same true false c d e f g = refl
-seven-same true true false d e f g = refl
-seven-same true true true false e f g = refl
-seven-same true true true true false f g = refl
-seven-same true true true true true false g = refl
-seven-same true true true true true true false = refl
-seven-same true true true true true true true = refl
-
 module _ (row previous : List ℕ) where
-  pub goes-on-same : (((((eqb (at row FIRST) 0 && eqb (wordsAt row TIMESTAMP) (wordsAt previous TIMESTAMP)) && eqb (at row IS-SET) (at previous IS-SET))
-      && eqb (at row IS-WRITE) (at previous IS-WRITE)) && eqb (wordsAt row SRC) (halvesAt previous SRC-INCR))
-      && eqb (wordsAt row DST) (halvesAt previous DST-INCR)) && eqb (wordsAt row COUNT) (halvesAt previous COUNT-DECR)
+  pub goes-on-same : (((((eqb (at row FIRST) 0 && eqb (wordsAt row TIMESTAMP) (wordsAt previous TIMESTAMP))
+      && eqb (at row IS-SET) (at previous IS-SET))
+      && eqb (at row IS-WRITE) (at previous IS-WRITE))
+      && eqb (wordsAt row SRC) (halvesAt previous SRC-INCR))
+      && eqb (wordsAt row DST) (halvesAt previous DST-INCR))
+      && eqb (wordsAt row COUNT) (halvesAt previous COUNT-DECR)
       ≡ same (shown row) (handedOn previous)
   unfolding same
-  goes-on-same =
-      seven-same (eqb (at row FIRST) 0) (eqb (wordsAt row TIMESTAMP) (wordsAt previous TIMESTAMP)) (eqb (at row IS-SET) (at previous IS-SET))
-      (eqb (at row IS-WRITE) (at previous IS-WRITE)) (eqb (wordsAt row SRC) (halvesAt previous SRC-INCR))
-      (eqb (wordsAt row DST) (halvesAt previous DST-INCR)) (eqb (wordsAt row COUNT) (halvesAt previous COUNT-DECR))
+  goes-on-same = simp (and-assoc, and-true)
 
 -- ---- whether a row may follow
 
@@ -84,26 +73,26 @@ unfolding standing
 standing-none [] e = refl
 standing-none (x ∷ xs) e = absurd (omega arith)
 
-pub standing-row : (l : List ℕ) → 0 < length l → standing l ≡ before l
+pub standing-row : (l : List ℕ) → 0 < length l → standing l ≡ beforeOf l
 unfolding standing
 standing-row [] h = absurd (omega arith)
 standing-row (x ∷ xs) h = refl
 
 module _ (l : List ℕ) (h : 0 < length l) where
   pub standing-dead : (at l MU ≡ 1 → ⊥) → standing l ≡ dead
-  unfolding before
+  unfolding beforeOf
   standing-dead n = standing-row l h ∙ rw (ne-eqb (at l MU) 1 n)
 
   pub standing-ended : at l MU ≡ 1 → at l END ≡ 1 → standing l ≡ closed
-  unfolding before
+  unfolding beforeOf
   standing-ended m e = standing-row l h ∙ rw (eq-eqb (at l MU) 1 m, eq-eqb (at l END) 1 e)
 
   pub standing-unended : at l MU ≡ 1 → (at l END ≡ 1 → ⊥) → standing l ≡ unended l
-  unfolding before
+  unfolding beforeOf
   standing-unended m e = standing-row l h ∙ rw (eq-eqb (at l MU) 1 m, ne-eqb (at l END) 1 e)
 
   pub is-unended : isUnended (standing l) ≡ eqb (at l MU) 1 && not (eqb (at l END) 1)
-  unfolding before
+  unfolding beforeOf
   is-unended = ap isUnended (standing-row l h) ∙ go (eqb (at l MU) 1) (eqb (at l END) 1)
     where
       go : (m e : Bool) → isUnended (cond m (cond e closed (unended l)) dead) ≡ m && not e

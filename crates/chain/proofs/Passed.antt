@@ -14,9 +14,9 @@ use Rattle.copy_row.specs.Columns.{COLUMNS}
 use Rattle.copy_residues.specs.RowCheck.{rowFault}
 use Rattle.copy_residues.specs.declared.RowFault.{RowFault}
 use Rattle.copy_residues.specs.declared.RowFault.the-variants.{Fine, NotElement, OutOfRange, NotZero}
-use Rattle.plain_row.specs.Tests.{Caps}
-use Rattle.plain_row.proofs.Same.{fits-of-fine}
-use Rattle.chain.specs.Link.{Before, closed, linked, before}
+use Rattle.row_test.specs.Caps.{Caps}
+use Rattle.row_test.proofs.Columns.{caps-of-fine}
+use Rattle.chain.specs.Link.{Before, closed, linked, beforeOf}
 use Rattle.chain.specs.Chain.{tableRows, onFault, chainFrom, chainAnswer, refusalNumbers, chainNumbers}
 use Rattle.chain.specs.declared.ChainAnswer.{ChainAnswer}
 use Rattle.chain.specs.declared.ChainAnswer.the-variants.{Refused}
@@ -70,9 +70,9 @@ rows-caps : (gap : ℕ) → gap < 2 ^ 32 → (b : Before) (k : ℕ) (rows : List
 unfolding chainFrom
 rows-caps gap small b k [] wide e = tt
 rows-caps gap small b k (row ∷ rows) wide e =
-    let f = fault-accepted (rowFault gap row) k (cond (linked b row) (chainFrom gap (before row) (k + 1) rows) (Refused (LinkBroken k))) e in
-    let l = link-accepted (linked b row) k (chainFrom gap (before row) (k + 1) rows) (f .1) in
-    (fits-of-fine gap small row (wide .0) (f .0), rows-caps gap small (before row) (k + 1) rows (wide .1) (l .1))
+    let f = fault-accepted (rowFault gap row) k (cond (linked b row) (chainFrom gap (beforeOf row) (k + 1) rows) (Refused (LinkBroken k))) e in
+    let l = link-accepted (linked b row) k (chainFrom gap (beforeOf row) (k + 1) rows) (f .1) in
+    (caps-of-fine gap small row (wide .0) (f .0), rows-caps gap small (beforeOf row) (k + 1) rows (wide .1) (l .1))
 
 pub passing-caps : (gap : ℕ) (l : List ℕ) → Passing gap l → All Caps (tableRows l)
 passing-caps gap l p = rows-caps gap (p .small) closed 0 (tableRows l) (records-whole COLUMNS (omega arith) l (p .whole)) (p .rows)

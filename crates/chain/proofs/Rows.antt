@@ -2,7 +2,7 @@
 -- stops at the first row and, in it, the first check that fails." Assumes nothing.
 use mathlib.Core.Path.{_≡_, refl, sym, ap, _∙_}
 use mathlib.Core.Bool.{true, false, cond}
-use mathlib.Core.List.{List, [], _∷_}
+use mathlib.Core.List.{List, []}
 use Prim.Native.Nat.{ℕ, _+_, _-_, _/_, _%_, _^_, _≤_, _<_}
 use native.Mathlib.Omega.{arith}
 use borrow.Author.Tests.{eq-eqb, ne-eqb, le-leb, lt-leb}
@@ -14,31 +14,28 @@ use Rattle.records.proofs.Records.{record-length}
 use Rattle.copy_row.specs.Columns.{COLUMNS}
 use Rattle.copy_residues.specs.RowCheck.{rowFault}
 use Rattle.copy_residues.specs.declared.RowFault.the-variants.{Fine, NotElement, OutOfRange, NotZero}
-use Rattle.plain_row.proofs.Same.{fits-of-fine}
-use Rattle.chain.specs.Link.{Before, closed, unended, dead, linked, before}
+use Rattle.row_test.proofs.Columns.{caps-of-fine}
+use Rattle.chain.specs.Link.{Before, closed, unended, dead, linked, beforeOf}
 use Rattle.chain.specs.Chain.{tableRows, onFault, onEnd, chainFrom, chainAnswer}
 use Rattle.chain.specs.Standing.{standing, Stood, isUnended}
 use Rattle.chain.specs.declared.ChainAnswer.the-variants.{Passed, Refused}
 use Rattle.chain.specs.declared.ChainRefusal.the-variants.{GapTooLarge, NotRows, BadElement, BadRange, BadResidue, LinkBroken, NotEnded}
 use Rattle.chain.proofs.Links.{stood-none, stood-row, standing-none, standing-row}
 
--- row k, and the rows from row k on
-abbrev pub rowAt : List ℕ → ℕ → List ℕ
-rowAt l k = recordAt COLUMNS l k
-
+-- the rows from row k on
 abbrev pub restAt : List ℕ → ℕ → List (List ℕ)
-restAt l k = listed (rowAt l) k (length l / COLUMNS - k)
+restAt l k = listed (recordAt COLUMNS l) k (length l / COLUMNS - k)
 
-pub row-length : (l : List ℕ) (k : ℕ) → k < length l / COLUMNS → length (rowAt l k) ≡ COLUMNS
+pub row-length : (l : List ℕ) (k : ℕ) → k < length l / COLUMNS → length (recordAt COLUMNS l k) ≡ COLUMNS
 row-length l k h = record-length COLUMNS l k (omega arith)
 
 -- whole rows, from the first on
 pub rest-all : (l : List ℕ) → length l % COLUMNS ≡ 0 → tableRows l ≡ restAt l 0
 unfolding recordsIn
-rest-all l whole = let e : recordCount COLUMNS l ≡ length l / COLUMNS - 0 = omega arith in ap (listed (rowAt l) 0) e
+rest-all l whole = let e : recordCount COLUMNS l ≡ length l / COLUMNS - 0 = omega arith in ap (listed (recordAt COLUMNS l) 0) e
 
 pub rows-count : (l : List ℕ) → length l % COLUMNS ≡ 0 → length (tableRows l) ≡ length l / COLUMNS
-rows-count l whole = ap length (rest-all l whole) ∙ listed-length (rowAt l) 0 (length l / COLUMNS - 0) ∙ omega arith
+rows-count l whole = ap length (rest-all l whole) ∙ listed-length (recordAt COLUMNS l) 0 (length l / COLUMNS - 0) ∙ omega arith
 
 -- What a walk over the rows has when it comes to row k: what stands before it, and the answer as that of the rows from k on
 
@@ -71,12 +68,12 @@ module _ (gap : ℕ) (l : List ℕ) where
 
 module _ (gap : ℕ) (l previous : List ℕ) (k : ℕ) (walk : Walk gap l previous k) where
   -- at a row
-  module _ (h : k < length l / COLUMNS) (row : List ℕ) (is : row ≡ rowAt l k) where
+  module _ (h : k < length l / COLUMNS) (row : List ℕ) (is : row ≡ recordAt COLUMNS l k) where
     at-row : chainAnswer gap l
         ≡ onFault (rowFault gap row) k
-        (cond (linked (standing previous) row) (chainFrom gap (before row) (k + 1) (restAt l (k + 1))) (Refused (LinkBroken k)))
+        (cond (linked (standing previous) row) (chainFrom gap (beforeOf row) (k + 1) (restAt l (k + 1))) (Refused (LinkBroken k)))
     unfolding chainFrom
-    at-row = walk .rest ∙ rw (is, listed-left (rowAt l) (length l / COLUMNS) k h)
+    at-row = walk .rest ∙ rw (is, listed-left (recordAt COLUMNS l) (length l / COLUMNS) k h)
 
     pub from-element : rowFault gap row ≡ NotElement → Refused (BadElement k) ≡ chainAnswer gap l
     from-element q = sym (at-row ∙ rw q)
@@ -95,7 +92,7 @@ module _ (gap : ℕ) (l previous : List ℕ) (k : ℕ) (walk : Walk gap l previo
       walk-on small wide q =
           record {
             within = omega arith;
-            stood = stood-row row wide (fits-of-fine gap small row wide fine);
+            stood = stood-row row wide (caps-of-fine gap small row wide fine);
             rest = at-row ∙ rw (fine, q, standing-row row (omega arith));
           }
 
@@ -103,7 +100,7 @@ module _ (gap : ℕ) (l previous : List ℕ) (k : ℕ) (walk : Walk gap l previo
   module _ (h : length l / COLUMNS ≤ k) where
     at-end : chainAnswer gap l ≡ cond (isUnended (standing previous)) (Refused (NotEnded k)) (Passed k)
     unfolding chainFrom
-    at-end = walk .rest ∙ rw (listed-over (rowAt l) (length l / COLUMNS) k h) (ends (standing previous))
+    at-end = walk .rest ∙ rw (listed-over (recordAt COLUMNS l) (length l / COLUMNS) k h) (ends (standing previous))
       where
         ends : (b : Before) → onEnd b k ≡ cond (isUnended b) (Refused (NotEnded k)) (Passed k)
         ends closed = refl

@@ -12,7 +12,7 @@ use Rattle.copy_row.specs.Columns.{COLUMNS}
 use Rattle.copy_residues.specs.RowCheck.{rowFault}
 use Rattle.copy_residues.specs.declared.RowFault.{RowFault}
 use Rattle.copy_residues.specs.declared.RowFault.the-variants.{Fine, NotElement, OutOfRange, NotZero}
-use Rattle.chain.specs.Link.{Before, closed, unended, dead, linked, before}
+use Rattle.chain.specs.Link.{Before, closed, unended, dead, linked, beforeOf}
 use Rattle.chain.specs.declared.ChainAnswer.{ChainAnswer}
 use Rattle.chain.specs.declared.ChainAnswer.the-variants.{Passed, Refused}
 use Rattle.chain.specs.declared.ChainRefusal.{ChainRefusal}
@@ -39,7 +39,7 @@ onEnd dead k = Passed k
 unfoldable pub chainFrom : ℕ → Before → ℕ → List (List ℕ) → ChainAnswer
 chainFrom gap b k [] = onEnd b k
 chainFrom gap b k (row ∷ rows) =
-    onFault (rowFault gap row) k (cond (linked b row) (chainFrom gap (before row) (k + 1) rows) (Refused (LinkBroken k)))
+    onFault (rowFault gap row) k (cond (linked b row) (chainFrom gap (beforeOf row) (k + 1) rows) (Refused (LinkBroken k)))
 
 -- the whole check
 unfoldable pub chainAnswer : ℕ → List ℕ → ChainAnswer

@@ -53,5 +53,5 @@ unfoldable pub linked : Before → List ℕ → Bool
 linked b row = cond (eqb (at row MU) 1) (liveLinked b row) (deadLinked b)
 
 -- what a row is to the row after it
-unfoldable pub before : List ℕ → Before
-before row = cond (eqb (at row MU) 1) (cond (eqb (at row END) 1) closed (unended row)) dead
+unfoldable pub beforeOf : List ℕ → Before
+beforeOf row = cond (eqb (at row MU) 1) (cond (eqb (at row END) 1) closed (unended row)) dead

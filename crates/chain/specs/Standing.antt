@@ -5,13 +5,13 @@ use mathlib.Core.List.{List, [], _∷_}
 use Prim.Native.Nat.{ℕ, _<_}
 use lib.ListN.{length}
 use Rattle.copy_row.specs.Columns.{COLUMNS}
-use Rattle.plain_row.specs.Tests.{Caps}
-use Rattle.chain.specs.Link.{Before, closed, unended, dead, before}
+use Rattle.row_test.specs.Caps.{Caps}
+use Rattle.chain.specs.Link.{Before, closed, unended, dead, beforeOf}
 
 -- what it is to the row after it
 unfoldable pub standing : List ℕ → Before
 standing [] = closed
-standing (x ∷ xs) = before (x ∷ xs)
+standing (x ∷ xs) = beforeOf (x ∷ xs)
 
 -- none, or a row whose columns lie below their caps
 unfoldable pub Stood : List ℕ → Type 0

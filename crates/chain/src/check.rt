@@ -8,13 +8,12 @@ use crate::ChainRefusal;
 use crate::link::linked;
 use crate::link::unended;
 use copy_residues::parts::parts_of;
-use copy_residues::range::first_large;
 use copy_residues::range::first_out;
 use copy_residues::residues::NUM_RESIDUES;
 use copy_residues::residues::residue_with;
 use copy_row::cols::NUM_COLUMNS;
-use plain_row::row::is_plain;
-use records::tables::record_at;
+use field::rows::first_large;
+use row_test::row::is_plain;
 
 // "The check stops at the first row and, in it, the first check that fails": nested loops over rows and residues, left by a label with row
 // and index. "A row is a run of 41 numbers of the list": each row is a slice of its own. A row that is right on plain numbers has nothing
@@ -38,7 +37,7 @@ pub fn check(gap: u64, rows: &[u64]) -> ChainAnswer
             }
             break 'rows ChainAnswer::Passed { rows: k as u64 };
         }
-        let row = record_at(rows, NUM_COLUMNS, k);
+        let row = &rows[NUM_COLUMNS * k..NUM_COLUMNS * k + NUM_COLUMNS];
         if !is_plain(gap, row) {
             if first_large(row) < NUM_COLUMNS {
                 break 'rows refused(ChainRefusal::BadElement { row: k as u64 });

@@ -8,12 +8,12 @@ ghost use lib.ListN.{length};
 ghost use Rattle.lists.specs.Lists.{same};
 ghost use Rattle.copy_row.specs.Columns.{TIMESTAMP, COLUMNS};
 ghost use Rattle.copy_meaning.specs.ReadRow.{TwoWords, FourHalves, wordsAt, halvesAt};
-ghost use Rattle.plain_row.specs.Tests.{Caps};
+ghost use Rattle.row_test.specs.Caps.{Caps};
 ghost use Rattle.chain.specs.Link.{closed, linked, shown, handedOn};
 ghost use Rattle.chain.specs.Standing.{standing, Stood, isUnended};
 use copy_row::cols;
-use plain_row::row::halves_at;
-use plain_row::row::words_at;
+use row_test::row::halves_at;
+use row_test::row::words_at;
 
 // The number in words at column c is the one in halves at column h of the row before.
 fn moved(previous: &[u64], row: &[u64], c: usize, h: usize) -> bool

@@ -9,6 +9,8 @@ use Rattle.answer.specs.Numbers.{accepted, refused}
 use Rattle.answer.specs.declared.Answer.{Answer}
 use Rattle.lists.specs.Lists.{first, at}
 use Rattle.access.specs.Access.{IS-REGISTER, BASE-ADDRESS, TIMESTAMP, WIDTH, OLD-TIMESTAMP, goodAccess}
+use Rattle.access.specs.declared.AccessTable.{AccessTable}
+use Rattle.access.specs.declared.AccessTable.the-variants as table
 use Rattle.classify.specs.declared.ClassifyAnswer.{ClassifyAnswer}
 use Rattle.classify.specs.declared.ClassifyAnswer.the-variants.{Route, BadRecord}
 use Rattle.classify.specs.declared.MemwRoute.{MemwRoute}
@@ -48,6 +50,15 @@ isAlignedOp r = eqb (lowWord (at r BASE-ADDRESS) % at r WIDTH) 0 && stampsAgree 
 
 unfoldable pub classify : List ℕ → MemwRoute
 classify r = cond (isRegisterOp r) Register (cond (isAlignedOp r) Aligned General)
+
+-- the table that a route leads to, and the table that takes an access record
+abbrev pub tableOf : MemwRoute → AccessTable
+tableOf Register = table.Register
+tableOf Aligned = table.Aligned
+tableOf General = table.General
+
+abbrev pub tableFor : List ℕ → AccessTable
+tableFor r = tableOf (classify r)
 
 -- a route's number, in the order in which it is looked for
 abbrev pub routeNumber : MemwRoute → ℕ

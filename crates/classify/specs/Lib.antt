@@ -1,3 +1,3 @@
 pub mod Classify
-pub mod RouteRecord
+pub mod TableRecord
 pub mod RouteExamples

@@ -6,9 +6,6 @@ use answer::Answer;
 ghost use mathlib.Core.Path.{_≡_};
 ghost use Rattle.classify.specs.Classify.{routeNumber, classifyAnswer, classifyNumbers};
 
-// Numbers in a record of the register table.
-pub const REGISTER_WIDTH: usize = 8;
-
 // The table that takes an access. The order of the cases is that of the tests, and matters: what the register table takes, the aligned
 // table would take too.
 pub enum MemwRoute {

@@ -1,6 +1,7 @@
-// Internal to the workspace, not open to callers: the route of a good access record and its record in the route's list, for the entry of
-// this crate, routing and `push_reg_access`. Assumes nothing but what each `requires` says.
+// Internal to the workspace, not open to callers: the route of a good access record, the table that it leads to and its record in that
+// table's list, for the entry of this crate, routing and `push_reg_access`. Assumes nothing but what each `requires` says.
 use crate::MemwRoute;
+use access::AccessTable;
 use access::BASE_ADDRESS;
 use access::IS_READ;
 use access::IS_REGISTER;
@@ -13,9 +14,9 @@ ghost use mathlib.Core.Path.{_≡_};
 ghost use mathlib.Core.Bool.{true};
 ghost use Prim.Native.Nat.{_%_};
 ghost use lib.ListN.{length};
-ghost use Rattle.access.specs.Access.{isWidth, goodAccess};
-ghost use Rattle.classify.specs.Classify.{deltaInRange, isRegisterOp, isAlignedOp, classify};
-ghost use Rattle.classify.specs.RouteRecord.{registerRecord, addressFits};
+ghost use Rattle.access.specs.Access.{ACCESS-WIDTH, isWidth, goodAccess};
+ghost use Rattle.classify.specs.Classify.{deltaInRange, isRegisterOp, isAlignedOp, classify, tableOf};
+ghost use Rattle.classify.specs.TableRecord.{registerRecord, addressFits};
 
 // The route of an access. Register is decided first, then aligned; the rest is general.
 pub fn classify(op: &[u64]) -> MemwRoute
@@ -33,7 +34,7 @@ pub fn classify(op: &[u64]) -> MemwRoute
 
 // A two-word register access whose words were written together, not long ago.
 fn is_register_op(op: &[u64]) -> bool
-    requires { ⌜ length (now op) ≡ 29 ⌝ }
+    requires { ⌜ length (now op) ≡ ACCESS-WIDTH ⌝ }
     ensures { λ r. ⌜ r ≡ isRegisterOp (now (op .entry)) ⌝ }
 {
     if op[IS_REGISTER] != 1 {
@@ -101,20 +102,31 @@ fn past_multiple(low: u64, width: u64) -> u64
     0
 }
 
-// Whether an access at this address has a place in its route's table.
-pub fn address_fits(route: MemwRoute, address: u64) -> bool
-    ensures { λ r. ⌜ r ≡ addressFits route address ⌝ }
+// The table that a route leads to.
+pub fn table_of(route: MemwRoute) -> AccessTable
+    ensures { λ r. ⌜ r ≡ tableOf route ⌝ }
 {
     match route {
-        MemwRoute::Register => (address % 2 == 0) & (address / 2 <= 65535),
-        MemwRoute::Aligned => true,
-        MemwRoute::General => true,
+        MemwRoute::Register => AccessTable::Register,
+        MemwRoute::Aligned => AccessTable::Aligned,
+        MemwRoute::General => AccessTable::General,
+    }
+}
+
+// Whether an access at this address has a place in the table.
+pub fn address_fits(t: AccessTable, address: u64) -> bool
+    ensures { λ r. ⌜ r ≡ addressFits t address ⌝ }
+{
+    match t {
+        AccessTable::General => true,
+        AccessTable::Aligned => true,
+        AccessTable::Register => (address % 2 == 0) & (address / 2 <= 65535),
     }
 }
 
 // The register table's record of an access.
 pub fn register_record(op: &[u64]) -> [u64; 8]
-    requires { ⌜ length (now op) ≡ 29 ⌝ }
+    requires { ⌜ length (now op) ≡ ACCESS-WIDTH ⌝ }
     ensures { λ r. ⌜ r ≡ registerRecord (now (op .entry)) ⌝ }
 {
     [

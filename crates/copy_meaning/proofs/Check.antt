@@ -12,15 +12,17 @@ use lib.ListN.{length, getD}
 use Rattle.lists.specs.Lists.{first, at}
 use Rattle.lists.proofs.First.{first-none, first-all}
 use Rattle.field.specs.Field.{p}
+use Rattle.field.specs.Rows.{firstLarge}
 use Rattle.copy_row.specs.Columns.{COLUMNS}
-use Rattle.copy_residues.specs.Range.{columnLimits, firstLarge, firstOut}
+use Rattle.copy_residues.specs.Range.{columnLimits, firstOut}
 use Rattle.copy_residues.specs.Residues.{residue, RESIDUES}
 use Rattle.copy_residues.specs.RowCheck.{firstResidue, rowFault}
 use Rattle.copy_residues.specs.declared.RowFault.{RowFault}
 use Rattle.copy_residues.specs.declared.RowFault.the-variants.{Fine, NotElement, OutOfRange, NotZero}
 use Rattle.copy_meaning.specs.RowIff.{InRange}
 
-pub record Passing (gap : ℕ) (row : List ℕ) : Type 0 where
+-- a row in range, its residues 0
+pub record Clean (gap : ℕ) (row : List ℕ) : Type 0 where
   pub range : InRange row
   pub zeroes : (i : ℕ) → i < RESIDUES → residue gap row i ≡ 0
 
@@ -45,9 +47,9 @@ pub range-elements : (row : List ℕ) → InRange row → (c : ℕ) → c < COLU
 range-elements row range c h = omega (arith, range c h, limits-elements c h)
 
 module _ (gap : ℕ) (row : List ℕ) where
-  pub fine-passing : rowFault gap row ≡ Fine → Passing gap row
+  pub fine-clean : rowFault gap row ≡ Fine → Clean gap row
   unfolding rowFault firstLarge firstOut firstResidue
-  fine-passing e =
+  fine-clean e =
       let a = passed (ltb (firstLarge row) (length row)) NotElement _ refl e in
       let b = passed (ltb (firstOut row) COLUMNS) OutOfRange _ refl (a .1) in
       let d = passed (ltb (firstResidue gap row) RESIDUES) (NotZero (firstResidue gap row)) _ refl (b .1) in
@@ -58,9 +60,9 @@ module _ (gap : ℕ) (row : List ℕ) where
             eqb-true _ _ (not-false _ (first-none (λ i. not (eqb (residue gap row i) 0)) 0 RESIDUES i (ltb-false _ _ (d .0)) (omega arith) h));
       }
 
-  pub passing-fine : length row ≡ COLUMNS → Passing gap row → rowFault gap row ≡ Fine
+  pub clean-fine : length row ≡ COLUMNS → Clean gap row → rowFault gap row ≡ Fine
   unfolding rowFault firstLarge firstOut firstResidue
-  passing-fine wide q =
+  clean-fine wide q =
       let elements : first (λ c. leb p (at row c)) 0 (length row) ≡ 0 + length row =
       first-all (λ c. leb p (at row c)) 0 (length row) (λ c a b. lt-leb _ _ (range-elements row (q .range) c (omega arith))) in
       let columns : first (λ c. leb (getD columnLimits c 0) (at row c)) 0 COLUMNS ≡ COLUMNS =

@@ -78,10 +78,14 @@ module _ (row : List ℕ) (range : InRange row) where
 
   pub value-bytes : All (λ (b : ℕ). b < 256) (eightAt row VALUE)
   unfolding columnLimits
-  value-bytes = (
-    range VALUE (lit< tt),
-    (range (VALUE + 1) (lit< tt), (range (VALUE + 2) (lit< tt), (range (VALUE + 3) (lit< tt), (range (VALUE + 4) (lit< tt), (range (VALUE + 5) (lit< tt), (range (VALUE + 6) (lit< tt), (range (VALUE + 7) (lit< tt), tt))))))),
-  )
+  value-bytes =
+      let second = range (VALUE + 1) (lit< tt) in
+      let third = range (VALUE + 2) (lit< tt) in
+      let fourth = range (VALUE + 3) (lit< tt) in
+      let fifth = range (VALUE + 4) (lit< tt) in
+      let sixth = range (VALUE + 5) (lit< tt) in
+      let seventh = range (VALUE + 6) (lit< tt) in
+      omega (arith, range VALUE (lit< tt), range (VALUE + 7) (lit< tt))
 
 pub words-below : (row : List ℕ) (c : ℕ) → TwoWords row c → wordsAt row c < 2 ^ 64
 words-below row c w = omega arith

@@ -11,7 +11,9 @@ use lib.ListN.{getD}
 use Rattle.lists.specs.Lists.{at}
 use Rattle.field.specs.Field.{bitP, subP}
 use Rattle.copy_row.specs.Columns.{VALUE, SRC, DST, COUNT, FIRST, END, SINGLE, IS-SET, IS-WRITE, MU}
-use Rattle.copy_residues.specs.Residues.{step, incrLow, incrHigh, decrLow, decrHigh, resLow, resHigh, gapLow, gapHigh, impliesMu, oneHot, firstWrite, gatedBit, dstResNonWrite, singleLane, borrowImplies, borrowImpliesZero, endImplies, muComIs, muComWideIs, noWrap, gapNoWrap, front, back, residue, RESIDUES}
+use Rattle.copy_residues.specs.Residues.{step, incrLow, incrHigh, decrLow, decrHigh, resLow, resHigh, gapLow, gapHigh, impliesMu, oneHot, firstWrite}
+use Rattle.copy_residues.specs.Residues.{gatedBit, dstResNonWrite, singleLane, borrowImplies, borrowImpliesZero, endImplies, muComIs, muComWideIs}
+use Rattle.copy_residues.specs.Residues.{noWrap, gapNoWrap, front, back, residue, RESIDUES}
 
 pub record Equations (gap : ℕ) (row : List ℕ) : Type 0 where
   pub first : bitP (at row FIRST) ≡ 0

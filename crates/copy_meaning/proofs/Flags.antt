@@ -8,10 +8,6 @@ use borrow.Author.Tests.{eq-eqb, ne-eqb}
 use lib.Dec.{eqb, eqb·suc-zero}
 use Rattle.words.specs.Words.{wrapAdd, bit}
 
-pub bit-below-two : (t : Bool) → bit t < 2
-bit-below-two true = omega arith
-bit-below-two false = omega arith
-
 -- SINGLE: the width is 1
 pub single-test : (s : ℕ) → s < 2 → s ≡ bit (eqb (8 - 7 * s) 1)
 single-test zero h = refl

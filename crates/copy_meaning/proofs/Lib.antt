@@ -4,12 +4,12 @@ pub mod ReadBack
 pub mod DstRes
 pub mod Instances
 pub mod Check
-pub mod Plain
 pub mod Equations
 pub mod Columns
 pub mod Sums
 pub mod Flags
 pub mod StepFacts
+pub mod Decrement
 pub mod PlainOfZero
 pub mod ZeroOfPlain
 pub mod RowOfPlain

@@ -1,23 +1,22 @@
--- The row of a record with a good piece is in range, whatever its call: digits are below their base, whatever the width, and flags are
--- elements. Assumes nothing.
+-- The columns of the row of a record with a good piece lie below their limits, whatever its call: digits are below their base, whatever
+-- the width, and flags are bits. Assumes nothing.
 use mathlib.Core.Path.{_≡_, sym, subst}
 use mathlib.Core.Bool.{Bool, true, false, cond, _&&_}
 use mathlib.Core.List.{List, [], _∷_, _++_}
-use Prim.Native.Nat.{ℕ, zero, suc, _/_, _^_, _<_}
+use Prim.Native.Nat.{ℕ, zero, suc, _/_, _^_, _≤_, _<_}
 use native.Mathlib.Nat.{mod-lt}
 use native.Mathlib.Omega.{arith}
-use lib.Dec.{eqb, lit<}
-use lib.ListN.{length, getD, replicate}
+use lib.Dec.{eqb}
+use lib.ListN.{length, getD, take, replicate}
 use lib.Pow.{pow-pos}
-use Rattle.lists.specs.Lists.{eightAt, All}
+use Rattle.lists.specs.Lists.{at, eightAt, All}
 use Rattle.lists.proofs.Numbers.{eight-back}
 use Rattle.words.specs.Words.{digits, bit}
-use Rattle.field.specs.Field.{p}
 use Rattle.call.specs.Calls.{Op}
 use Rattle.call.specs.Cuts.{PieceOk}
+use Rattle.copy_row.specs.Columns.{FIRST, COLUMNS}
 use Rattle.copy_row.specs.Rows.{wrapped, dstRes, muCom, rowOf}
 use Rattle.copy_residues.specs.Range.{columnLimits}
-use Rattle.copy_meaning.specs.RowIff.{InRange}
 
 -- each number is below the limit that stands in its place
 infixr 5 _&_
@@ -49,16 +48,20 @@ bytes-under v e a =
     subst (λ (l : List ℕ). Under l (replicate 8 256)) (sym (eight-back v e))
     (subst (λ (n : ℕ). Under v (replicate n 256)) e (all-under 256 v a))
 
-bit-element : (t : Bool) → bit t < p
-bit-element true = lit< tt
-bit-element false = lit< tt
+bit-under : (t : Bool) (m : ℕ) → 2 ≤ m → bit t < m
+bit-under true m h = omega arith
+bit-under false m h = omega arith
 
-chosen-element : (t : Bool) (f : ℕ) → f < p → cond t f 0 < p
-chosen-element true f h = h
-chosen-element false f h = lit< tt
+chosen-under : (t : Bool) (f m : ℕ) → f < m → cond t f 0 < m
+chosen-under true f m h = h
+chosen-under false f m h = omega arith
 
-module _ (mu : ℕ) (o : Op) (ok : PieceOk (o .piece)) (live : mu < p) (first : o .first < p) (end : o .end < p) where
-  under : Under (rowOf mu o) columnLimits
+-- the limits of the columns, m for the nine flags
+abbrev pub limitsTo : ℕ → List ℕ
+limitsTo m = take FIRST columnLimits ++ replicate 9 m
+
+module _ (mu : ℕ) (o : Op) (ok : PieceOk (o .piece)) (m : ℕ) (bits : 2 ≤ m) (live : mu < m) (first : o .first < m) (end : o .end < m) where
+  under : Under (rowOf mu o) (limitsTo m)
   unfolding rowOf columnLimits
   under =
       digits-under 32 2 (o .call .stamp)
@@ -72,14 +75,14 @@ module _ (mu : ℕ) (o : Op) (ok : PieceOk (o .piece)) (live : mu < p) (first : 
       &&& digits-under 16 4 (dstRes (o .call))
       &&& first
       & end
-      & bit-element (eqb (o .piece .width) 1)
-      & bit-element (eqb (o .call .kind) 1)
-      & bit-element (eqb (o .call .kind) 2)
-      & chosen-element (eqb (o .call .kind) 2) (o .first) first
+      & bit-under (eqb (o .piece .width) 1) m bits
+      & bit-under (eqb (o .call .kind) 1) m bits
+      & bit-under (eqb (o .call .kind) 2) m bits
+      & chosen-under (eqb (o .call .kind) 2) (o .first) m first
       & live
-      & bit-element (muCom (o .call))
-      & bit-element (muCom (o .call) && eqb (o .piece .width) 8)
+      & bit-under (muCom (o .call)) m bits
+      & bit-under (muCom (o .call) && eqb (o .piece .width) 8) m bits
       & none
 
-  pub made-range : InRange (rowOf mu o)
-  made-range c h = under-at under c (unfold columnLimits in h)
+  pub made-below : (c : ℕ) → c < COLUMNS → at (rowOf mu o) c < getD (limitsTo m) c 0
+  made-below c h = under-at under c (unfold columnLimits in h)

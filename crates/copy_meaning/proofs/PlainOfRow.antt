@@ -3,44 +3,38 @@
 use mathlib.Core.Path.{_≡_, refl, sym, ap, _∙_}
 use mathlib.Core.Bool.{cond, not, _&&_}
 use mathlib.Core.List.{List}
-use Prim.Native.Nat.{ℕ, zero, suc, _+_, _-_, _*_, _^_, _≤_, _<_}
+use Prim.Native.Nat.{ℕ, _+_, _-_, _*_, _≤_, _<_}
 use native.Mathlib.Omega.{arith}
-use lib.Dec.{eqb}
+use lib.Dec.{eqb, lit≤}
 use lib.ListN.{getD, take, drop, replicate, getD-replicate}
 use lib.Seq.{getD-take, getD-drop}
 use Rattle.lists.specs.Lists.{at}
 use Rattle.lists.proofs.Numbers.{eight-back}
-use Rattle.words.specs.Words.{wrapAdd, wrapSub, bit}
-use Rattle.words.proofs.Wrap.{sub-plain, sub-wrapped}
+use Rattle.words.specs.Words.{wrapAdd, bit}
+use Rattle.words.proofs.Bits.{bit-small}
+use Rattle.field.specs.Field.{p}
 use Rattle.call.specs.Calls.{Op}
-use Rattle.copy_row.specs.Columns.{VALUE, SRC, DST, COUNT, FIRST, END, SINGLE, IS-SET, IS-WRITE, FIRST-WRITE, MU, MU-COM, MU-COM-WIDE}
+use Rattle.copy_row.specs.Columns.{VALUE, SRC, DST, COUNT, SINGLE, IS-SET, IS-WRITE, FIRST-WRITE, MU-COM, MU-COM-WIDE, COLUMNS}
 use Rattle.copy_row.specs.Rows.{dstRes, muCom, rowOf}
+use Rattle.copy_residues.specs.Range.{columnLimits}
 use Rattle.copy_meaning.specs.Steps.{RowStep}
-use Rattle.copy_meaning.specs.ReadRow.{wordsAt}
+use Rattle.copy_meaning.specs.ReadRow.{wordsAt, widthAt, emptyAt}
 use Rattle.copy_meaning.specs.RowIff.{InRange}
-use Rattle.copy_meaning.proofs.ReadBack.{src-back, dst-back, count-back, src-incr-back, dst-incr-back, count-decr-back, dst-res-back, kind-read, width-read}
-use Rattle.copy_meaning.proofs.Plain.{Plain, widthAt, emptyAt}
-use Rattle.copy_meaning.proofs.Flags.{bit-below-two, first-write-test, res-test, mu-com-test, wide-test}
+use Rattle.copy_meaning.proofs.ReadBack.{mu-back, first-back, end-back, src-back, dst-back, count-back, src-incr-back, dst-incr-back}
+use Rattle.copy_meaning.proofs.ReadBack.{count-decr-back, dst-res-back, kind-read, width-read}
+use Rattle.copy_meaning.specs.Plain.{Plain}
+use Rattle.copy_meaning.proofs.Flags.{first-write-test, res-test, mu-com-test, wide-test}
 use Rattle.copy_meaning.proofs.StepFacts.{StepFacts, width-bounds, facts-of-step}
-use Rattle.copy_meaning.proofs.MadeRange.{made-range}
+use Rattle.copy_meaning.proofs.Decrement.{decr-back}
+use Rattle.copy_meaning.proofs.MadeRange.{limitsTo, made-below}
 
 -- ---- on numbers
-
-left-over : (n w : ℕ) → w ≤ n → n - w + w ≡ n + 2 ^ 64 * 0
-left-over n w h = omega arith
-
--- the wrapped difference and the width make the count, with the borrow of an empty one
-decr-sum : (n w : ℕ) → n < 2 ^ 64 → (0 < w) × (w ≤ 8) → w ≤ n + 2 ^ 64 * (1 - n) → wrapSub n w + w ≡ n + 2 ^ 64 * (1 - n)
-decr-sum zero w hn hw h = rw (sub-wrapped 0 w (omega arith) (omega arith)) (omega arith)
-decr-sum (suc n) w hn hw h =
-    let full : 1 - suc n ≡ 0 = omega arith in
-    rw (sub-plain (suc n) w hn (omega arith), full) (left-over (suc n) w (omega arith))
 
 one-kind : (a w : ℕ) → a < 2 → w < 2 → a + 2 * w ≤ 2 → a + w < 2
 one-kind a w ha hw h = omega arith
 
 -- columns 3 to 9 of a row are zeroes
-tail-at : (row : List ℕ) → take 7 (drop 3 row) ≡ replicate 7 0 → (c : ℕ) → VALUE < c → c < SRC → at row c ≡ 0
+pub tail-at : (row : List ℕ) → take 7 (drop 3 row) ≡ replicate 7 0 → (c : ℕ) → VALUE < c → c < SRC → at row c ≡ 0
 tail-at row e c low high =
     let column : c ≡ 3 + (c - 3) = omega arith in
     ap (at row) column
@@ -55,29 +49,17 @@ module _ (gap mu : ℕ) (o : Op) (f : StepFacts gap mu o) where
 
   -- ---- the columns
 
-  first-is : at row FIRST ≡ o .first
-  unfolding rowOf
-  first-is = refl
-
-  end-is : at row END ≡ o .end
-  unfolding rowOf
-  end-is = refl
-
-  mu-is : at row MU ≡ mu
-  unfolding rowOf
-  mu-is = refl
-
   single-bit : at row SINGLE < 2
   unfolding rowOf
-  single-bit = bit-below-two (eqb (o .piece .width) 1)
+  single-bit = bit-small (eqb (o .piece .width) 1)
 
   set-bit : at row IS-SET < 2
   unfolding rowOf
-  set-bit = bit-below-two (eqb (o .call .kind) 1)
+  set-bit = bit-small (eqb (o .call .kind) 1)
 
   write-bit : at row IS-WRITE < 2
   unfolding rowOf
-  write-bit = bit-below-two (eqb (o .call .kind) 2)
+  write-bit = bit-small (eqb (o .call .kind) 2)
 
   first-write-is : at row FIRST-WRITE ≡ cond (eqb (o .call .kind) 2) (o .first) 0
   unfolding rowOf
@@ -142,37 +124,55 @@ module _ (gap mu : ℕ) (o : Op) (f : StepFacts gap mu o) where
   pub plain-of-facts : Plain gap row
   plain-of-facts =
       record {
-        mu = omega (arith, mu-is, f .live);
-        first = omega (arith, mu-is, first-is, f .first);
-        end = omega (arith, mu-is, end-is, f .end);
-        kinds = omega (arith, mu-is, one, kind-is, f .kind);
+        mu = omega (arith, mu-back mu o, f .live);
         single = single-bit;
-        first-write =
-            first-write-is
-            ∙ sym (ap (λ k. cond (eqb k 2) (o .first) 0) kind-is)
-            ∙ sym (first-write-test (at row IS-SET) (at row IS-WRITE) one (o .first))
-            ∙ ap (λ x. x * at row IS-WRITE) (sym first-is);
-        src = src-incr-back mu o ∙ (λ i. wrapAdd (sym src-is i) (sym width-is i));
-        src-free = rw (src-is, width-is, mu-is, empty-is) (f .src-free);
-        dst = dst-incr-back mu o ∙ (λ i. wrapAdd (sym dst-is i) (sym width-is i));
-        dst-free = rw (dst-is, width-is, mu-is, empty-is) (f .dst-free);
+        flags =
+            record {
+              first-live = omega (arith, mu-back mu o, first-back mu o, f .first);
+              end-live = omega (arith, mu-back mu o, end-back mu o, f .end);
+              kinds = omega (arith, mu-back mu o, one, kind-is, f .kind);
+              first-write =
+                  first-write-is
+                  ∙ sym (ap (λ k. cond (eqb k 2) (o .first) 0) kind-is)
+                  ∙ sym (first-write-test (at row IS-SET) (at row IS-WRITE) one (o .first))
+                  ∙ ap (λ x. x * at row IS-WRITE) (sym (first-back mu o));
+              empty-first = rw (empty-is, first-back mu o) (f .bounds .empty-first);
+              empty-end = rw (empty-is, end-back mu o) (f .bounds .empty-end);
+              mu-com = mu-com;
+              mu-com-wide = mu-com-wide;
+            };
+        src =
+            record {
+              sum = src-incr-back mu o ∙ (λ i. wrapAdd (sym src-is i) (sym width-is i));
+              free = rw (src-is, width-is, mu-back mu o, empty-is) (f .bounds .src-free);
+            };
+        dst =
+            record {
+              sum = dst-incr-back mu o ∙ (λ i. wrapAdd (sym dst-is i) (sym width-is i));
+              free = rw (dst-is, width-is, mu-back mu o, empty-is) (f .bounds .dst-free);
+            };
         count =
-            rw (count-decr-back mu o, width-is, count-is)
-            (decr-sum (o .call .count) (o .piece .width) (f .words .count) (width-bounds (o .piece .width) (f .piece .wide)) (f .enough));
-        empty-first = rw (empty-is, first-is) (f .empty-first);
-        empty-end = rw (empty-is, end-is) (f .empty-end);
-        last = rw (count-is, end-is, width-is) (f .last);
+            record {
+              sum =
+                  rw (count-decr-back mu o, width-is, count-is)
+                  (decr-back (o .call .count) (o .piece .width) (f .words .count) (width-bounds (o .piece .width) (f .piece .wide)) (f .bounds .enough));
+              last = rw (count-is, end-back mu o, width-is) (f .bounds .last);
+            };
         res = dst-res-back mu o (rw res-is (omega arith)) ∙ res-is ∙ (λ i. wrapAdd (sym dst-is i) (sym count-is i * at row IS-WRITE));
         gapped = λ e. dst-is ∙ f .gapped (omega (arith, kind-is, one)) ∙ ap (λ x. x + gap) (sym src-is);
         tail = λ e. tail-at row (tail-is (sym width-is ∙ ap (λ s. 8 - 7 * s) e));
-        mu-com = mu-com;
-        mu-com-wide = mu-com-wide;
       }
 
 pub plain-of-row : (gap mu : ℕ) (o : Op) → RowStep gap mu o → Plain gap (rowOf mu o)
 plain-of-row gap mu o d = plain-of-facts gap mu o (facts-of-step gap mu o d)
 
-pub range-of-row : (gap mu : ℕ) (o : Op) → RowStep gap mu o → InRange (rowOf mu o)
-range-of-row gap mu o d =
+-- its columns lie below their limits, m for the flags
+pub below-of-row : (gap mu : ℕ) (o : Op) → RowStep gap mu o → (m : ℕ) → 2 ≤ m → (c : ℕ) → c < COLUMNS
+    → at (rowOf mu o) c < getD (limitsTo m) c 0
+below-of-row gap mu o d m h =
     let f = facts-of-step gap mu o d in
-    made-range mu o (f .piece) (omega (arith, f .live)) (omega (arith, f .first, f .live)) (omega (arith, f .end, f .live))
+    made-below mu o (f .piece) m h (omega (arith, f .live)) (omega (arith, f .first, f .live)) (omega (arith, f .end, f .live))
+
+pub range-of-row : (gap mu : ℕ) (o : Op) → RowStep gap mu o → InRange (rowOf mu o)
+unfolding columnLimits
+range-of-row gap mu o d = below-of-row gap mu o d p (lit≤ tt)

@@ -10,15 +10,18 @@ use Rattle.lists.specs.Lists.{at}
 use Rattle.field.specs.Field.{p, addP, subP, mulP, bitP}
 use Rattle.field.proofs.Laws.{add-below, sub-below, mul-below, bit-below, sub-zero, subP-small, mulP-comm}
 use Rattle.field.proofs.Bits.{bit-of-zero, gate, not-both, implies, bit-mulP, bit-complement}
-use Rattle.copy_row.specs.Columns.{VALUE, SRC, SRC-INCR, DST, DST-INCR, COUNT, COUNT-DECR, DST-RES, FIRST, END, SINGLE, IS-SET, IS-WRITE, FIRST-WRITE, MU, MU-COM, MU-COM-WIDE, COLUMNS}
-use Rattle.copy_residues.specs.Residues.{halvesWord, step, incrHigh, decrHigh, resLow, resHigh, gapLow, gapHigh, borrow, impliesMu, oneHot, firstWrite, gatedBit, dstResNonWrite, singleLane, borrowImplies, borrowImpliesZero, endImplies, muComIs, muComWideIs, noWrap, gapNoWrap}
+use Rattle.copy_row.specs.Columns.{SRC, DST, COUNT, COUNT-DECR, DST-RES, FIRST, END, SINGLE, IS-SET, IS-WRITE, FIRST-WRITE, MU, MU-COM, MU-COM-WIDE, COLUMNS}
+use Rattle.copy_residues.specs.Residues.{halvesWord, step, incrLow, incrHigh, decrHigh, resLow, resHigh, gapLow, gapHigh, borrow, impliesMu, oneHot}
+use Rattle.copy_residues.specs.Residues.{firstWrite, gatedBit, dstResNonWrite, singleLane, borrowImplies, borrowImpliesZero, endImplies, muComIs}
+use Rattle.copy_residues.specs.Residues.{muComWideIs, noWrap, gapNoWrap}
 use Rattle.copy_residues.proofs.CountBorrow.{borrow-is-carry}
-use Rattle.copy_meaning.specs.ReadRow.{wordsAt, halvesAt}
+use Rattle.copy_meaning.specs.ReadRow.{TwoWords, FourHalves, wordsAt, halvesAt, widthAt, emptyAt}
+use Rattle.copy_meaning.specs.Plain.{Last, MovesAt, GapAt, TailAt, Plain}
 use Rattle.copy_meaning.specs.RowIff.{InRange}
 use Rattle.copy_meaning.proofs.Check.{range-elements}
-use Rattle.copy_meaning.proofs.Plain.{Plain, widthAt, emptyAt}
 use Rattle.copy_meaning.proofs.Equations.{Equations}
-use Rattle.copy_meaning.proofs.Columns.{src-words, dst-words, count-words, src-halves, dst-halves, count-halves, res-halves, words-below, halves-below, words-of, step-width}
+use Rattle.copy_meaning.proofs.Columns.{src-words, dst-words, count-words, src-halves, dst-halves, count-halves, res-halves, words-below}
+use Rattle.copy_meaning.proofs.Columns.{halves-below, words-of, step-width}
 use Rattle.copy_meaning.proofs.Sums.{Sum, incr-sum, decr-sum, res-sum, gap-sum}
 use Rattle.copy_meaning.proofs.Flags.{live-product}
 
@@ -89,18 +92,6 @@ module _ (gap : ℕ) (row : List ℕ) (g : gap < 2 ^ 32) (range : InRange row) (
         both-le (at row IS-SET) (at row IS-WRITE) (at row MU) is-set is-write mu (e .kinds-live),
       )
 
-  src : Sum (wordsAt row SRC) (widthAt row) (halvesAt row SRC-INCR) (incrHigh row SRC)
-  src = incr-sum row SRC (src-words row range) (src-halves row range) single (e .src-low) (e .src-high)
-
-  dst : Sum (wordsAt row DST) (widthAt row) (halvesAt row DST-INCR) (incrHigh row DST)
-  dst = incr-sum row DST (dst-words row range) (dst-halves row range) single (e .dst-low) (e .dst-high)
-
-  src-next : halvesAt row SRC-INCR < 2 ^ 64
-  src-next = halves-below row SRC-INCR (src-halves row range)
-
-  dst-next : halvesAt row DST-INCR < 2 ^ 64
-  dst-next = halves-below row DST-INCR (dst-halves row range)
-
   -- the borrow
   is-carry : borrow row ≡ decrHigh row
   is-carry = borrow-is-carry row (element COUNT (lit< tt)) (element (COUNT + 1) (lit< tt))
@@ -145,25 +136,29 @@ module _ (gap : ℕ) (row : List ℕ) (g : gap < 2 ^ 32) (range : InRange row) (
             (gate (mulP (at row END) (subP 1 (borrow row))) (subP (at row COUNT) (step row)) (mul-below _ _) (sub-below _ _) l (e .last-low)),
       )
 
-  last : wordsAt row COUNT + 2 ^ 64 * at row END ≤ widthAt row + 2 ^ 64
+  last : Last (widthAt row) (at row END) (wordsAt row COUNT)
   last = go (at row END) refl (borrow row) refl
     where
-      go : (x : ℕ) → at row END ≡ x → (b : ℕ) → borrow row ≡ b → wordsAt row COUNT + 2 ^ 64 * at row END ≤ widthAt row + 2 ^ 64
+      go : (x : ℕ) → at row END ≡ x → (b : ℕ) → borrow row ≡ b → Last (widthAt row) (at row END) (wordsAt row COUNT)
       go zero h b k = omega (arith, words-below row COUNT (count-words row range))
       go (suc x) h zero k = omega (arith, end, last-width (omega (arith, end)) k)
       go (suc x) h (suc b) k = omega (arith, end, borrow-zero (omega arith))
 
-  -- what moves a byte does not wrap
   moving : subP (at row MU) (borrow row) ≡ at row MU - borrow row
   moving = subP-small (at row MU) (borrow row) (omega (arith, mu)) (omega (arith, empty-first, marks .0))
 
-  src-free : subP (at row MU) (borrow row) + incrHigh row SRC < 2
+  -- SRC or DST and its increment, which does not wrap where the row moves a byte
+  moves : (c : ℕ) → TwoWords row c → FourHalves row (c + 2) → bitP (incrLow row c) ≡ 0 → bitP (incrHigh row c) ≡ 0 → noWrap row c ≡ 0
+      → MovesAt row c
   unfolding noWrap
-  src-free = not-both (subP (at row MU) (borrow row)) (incrHigh row SRC) (omega (arith, moving, mu)) (src .bit) (e .src-free)
-
-  dst-free : subP (at row MU) (borrow row) + incrHigh row DST < 2
-  unfolding noWrap
-  dst-free = not-both (subP (at row MU) (borrow row)) (incrHigh row DST) (omega (arith, moving, mu)) (dst .bit) (e .dst-free)
+  moves c w h low high free =
+      let sum = incr-sum row c w h single low high in
+      let next = halves-below row (c + 2) h in
+      let one = not-both (subP (at row MU) (borrow row)) (incrHigh row c) (omega (arith, moving, mu)) (sum .bit) free in
+      record {
+        sum = omega (arith, sum .total);
+        free = omega (arith, sum .total, moving, empty, empty-first, marks .0);
+      }
 
   -- a carry behind an open gate
   behind : (c x : ℕ) → at row c ≡ 1 → gatedBit row c x ≡ 0 → bitP x ≡ 0
@@ -193,7 +188,7 @@ module _ (gap : ℕ) (row : List ℕ) (g : gap < 2 ^ 32) (range : InRange row) (
       )
 
   -- a Set
-  gapped : at row IS-SET ≡ 1 → wordsAt row DST ≡ wordsAt row SRC + gap
+  gapped : GapAt gap row
   unfolding gapNoWrap
   gapped h =
       let sum = gap-sum gap row g (src-words row range) (dst-words row range)
@@ -201,7 +196,7 @@ module _ (gap : ℕ) (row : List ℕ) (g : gap < 2 ^ 32) (range : InRange row) (
       (behind IS-SET (gapHigh gap row) h (e .gap-high)) in
       omega (arith, gate (at row IS-SET) (gapHigh gap row) (omega arith) (omega (arith, sum .bit)) (omega arith) (e .gap-free))
 
-  tail : at row SINGLE ≡ 1 → (c : ℕ) → VALUE < c → c < SRC → at row c ≡ 0
+  tail : TailAt row
   unfolding singleLane
   tail h c low high =
       gate (at row SINGLE) (at row c) (omega arith) (element c (omega arith)) (omega arith) (e .tail c low high)
@@ -239,24 +234,24 @@ module _ (gap : ℕ) (row : List ℕ) (g : gap < 2 ^ 32) (range : InRange row) (
   plain-of-zero =
       record {
         mu = mu;
-        first = marks .0;
-        end = marks .1;
-        kinds = kinds;
         single = single;
-        first-write = first-write;
-        src = omega (arith, src .total, src-next);
-        src-free = omega (arith, src .total, src-next, src-free, moving, empty, empty-first, marks .0);
-        dst = omega (arith, dst .total, dst-next);
-        dst-free = omega (arith, dst .total, dst-next, dst-free, moving, empty, empty-first, marks .0);
-        count = count .total ∙ ap (λ x. wordsAt row COUNT + 2 ^ 64 * x) empty;
-        empty-first = omega (arith, empty, empty-first);
-        empty-end = omega (arith, empty, empty-end);
-        last = last;
+        flags =
+            record {
+              first-live = marks .0;
+              end-live = marks .1;
+              kinds = kinds;
+              first-write = first-write;
+              empty-first = omega (arith, empty, empty-first);
+              empty-end = omega (arith, empty, empty-end);
+              mu-com = mu-com;
+              mu-com-wide = mu-com-wide;
+            };
+        src = moves SRC (src-words row range) (src-halves row range) (e .src-low) (e .src-high) (e .src-free);
+        dst = moves DST (dst-words row range) (dst-halves row range) (e .dst-low) (e .dst-high) (e .dst-free);
+        count = record { sum = count .total ∙ ap (λ x. wordsAt row COUNT + 2 ^ 64 * x) empty; last = last };
         res =
             res-of (wordsAt row DST) (wordsAt row COUNT) (halvesAt row DST-RES) (at row IS-WRITE) (resHigh row) is-write
             (words-below row DST (dst-words row range)) (halves-below row DST-RES (res-halves row range)) res-write res-other;
         gapped = gapped;
         tail = tail;
-        mu-com = mu-com;
-        mu-com-wide = mu-com-wide;
       }

@@ -1,21 +1,21 @@
 -- What is read off the row of a record is that record, and what the row hands on is what the record's wrapped sums say. So a row tells
 -- its record, and no other record has it. Assumes nothing.
-use mathlib.Core.Path.{_≡_, refl, sym}
+use mathlib.Core.Path.{_≡_, refl, sym, _∙_}
+use mathlib.Core.List.{[], _∷_}
 use mathlib.Core.Logic.{_⊎_, inl, inr}
-use Prim.Native.Nat.{ℕ, zero, suc, _+_, _-_, _*_, _^_, _≤_, _<_}
+use Prim.Native.Nat.{ℕ, zero, suc, _+_, _-_, _*_, _%_, _^_, _≤_, _<_}
 use native.Mathlib.Omega.{arith}
 use lib.Dec.{eqb}
-use Rattle.lists.specs.Lists.{eightAt}
+use Rattle.lists.specs.Lists.{at, eightAt}
 use Rattle.lists.proofs.Numbers.{eight-back}
-use Rattle.words.specs.Words.{bit}
-use Rattle.words.proofs.Digits.{halves-whole}
+use Rattle.words.specs.Words.{number, bit}
+use Rattle.words.proofs.Digits.{halves-whole, number-digits}
 use Rattle.words.proofs.Wrap.{from-words}
 use Rattle.call.specs.Calls.{Op}
 use Rattle.call.specs.Cuts.{Words, PieceOk}
-use Rattle.copy_row.specs.Columns.{TIMESTAMP, VALUE, SRC, SRC-INCR, DST, DST-INCR, COUNT, COUNT-DECR, DST-RES}
+use Rattle.copy_row.specs.Columns.{TIMESTAMP, VALUE, SRC, SRC-INCR, DST, DST-INCR, COUNT, COUNT-DECR, DST-RES, FIRST, END, MU}
 use Rattle.copy_row.specs.Rows.{wrapped, dstRes, rowOf}
-use Rattle.copy_meaning.specs.ReadRow.{wordsAt, halvesAt, kindAt, callAt, opAt, nextAt}
-use Rattle.copy_meaning.proofs.Plain.{widthAt}
+use Rattle.copy_meaning.specs.ReadRow.{wordsAt, halvesAt, widthAt, kindAt, callAt, opAt, nextAt}
 
 -- four halves in the form in which they are read
 regroup : (a b c d x : ℕ) → a + 2 ^ 16 * (b + 2 ^ 16 * (c + 2 ^ 16 * (d + 2 ^ 16 * 0))) ≡ x → a + 2 ^ 16 * b + 2 ^ 32 * c + 2 ^ 48 * d ≡ x
@@ -31,8 +31,28 @@ width-back : (w : ℕ) → (w ≡ 1) ⊎ (w ≡ 8) → 8 - 7 * bit (eqb w 1) ≡
 width-back w (inl e) = rw e
 width-back w (inr e) = rw e
 
+two-words : (a b : ℕ) → a + 2 ^ 32 * b ≡ number 32 (a ∷ b ∷ [])
+two-words a b = omega arith
+
 module _ (mu : ℕ) (o : Op) where
+  -- MU and the marks stand in the row as they are
+  pub mu-back : at (rowOf mu o) MU ≡ mu
+  unfolding rowOf
+  mu-back = refl
+
+  pub first-back : at (rowOf mu o) FIRST ≡ o .first
+  unfolding rowOf
+  first-back = refl
+
+  pub end-back : at (rowOf mu o) END ≡ o .end
+  unfolding rowOf
+  end-back = refl
+
   -- columns of words and of halves
+  pub src-modulo : wordsAt (rowOf mu o) SRC ≡ o .call .src % 2 ^ 64
+  unfolding rowOf
+  src-modulo = two-words _ _ ∙ number-digits 32 2 (o .call .src)
+
   pub stamp-back : o .call .stamp < 2 ^ 64 → wordsAt (rowOf mu o) TIMESTAMP ≡ o .call .stamp
   unfolding rowOf
   stamp-back h = sym (from-words (o .call .stamp) h)

@@ -15,9 +15,9 @@ use Rattle.copy_residues.specs.RowCheck.{rowFault}
 use Rattle.copy_residues.specs.declared.RowFault.the-variants.{Fine}
 use Rattle.copy_meaning.specs.Steps.{LiveStep, DeadStep, RowStep}
 use Rattle.copy_meaning.specs.ReadRow.{opAt}
+use Rattle.copy_meaning.specs.Plain.{Plain}
 use Rattle.copy_meaning.specs.RowIff.{RowIff, InRange}
-use Rattle.copy_meaning.proofs.Check.{fine-passing, passing-fine}
-use Rattle.copy_meaning.proofs.Plain.{Plain}
+use Rattle.copy_meaning.proofs.Check.{fine-clean, clean-fine}
 use Rattle.copy_meaning.proofs.Equations.{equations-of, residues-zero}
 use Rattle.copy_meaning.proofs.PlainOfZero.{plain-of-zero}
 use Rattle.copy_meaning.proofs.ZeroOfPlain.{zero-of-plain}
@@ -28,11 +28,11 @@ use Rattle.copy_meaning.proofs.PlainOfRow.{plain-of-row, range-of-row}
 pub plain-iff : (gap : ℕ) → gap < 2 ^ 32 → (row : List ℕ) → length row ≡ COLUMNS → (rowFault gap row ≡ Fine) ↔ (InRange row × Plain gap row)
 plain-iff gap g row wide = (
   λ e.
-      let q = fine-passing gap row e in
+      let q = fine-clean gap row e in
       (q .range, plain-of-zero gap row g (q .range) (equations-of gap row (q .zeroes))),
   λ h.
       let z = residues-zero gap row (zero-of-plain gap row g (h .0) (h .1)) in
-      passing-fine gap row wide (record { range = h .0; zeroes = λ i l. z i }),
+      clean-fine gap row wide (record { range = h .0; zeroes = λ i l. z i }),
 )
 
 -- the row of a record that meets its step, live or dead

@@ -4,7 +4,7 @@ use mathlib.Core.Path.{_≡_, refl, ap, _∙_}
 use mathlib.Core.Bool.{_&&_}
 use mathlib.Core.List.{List, [], _∷_, _++_}
 use mathlib.Core.Logic.{_⊎_, inl, inr}
-use Prim.Native.Nat.{ℕ, zero, suc, _+_, _-_, _*_, _%_, _^_, _<_}
+use Prim.Native.Nat.{ℕ, zero, suc, _+_, _-_, _*_, _^_, _<_}
 use native.Mathlib.Omega.{arith}
 use lib.Dec.{lit<, eqb}
 use lib.ListN.{length}
@@ -13,14 +13,17 @@ use Rattle.words.specs.Words.{words, halves, wrapSub, bit}
 use Rattle.words.proofs.Limbs.{two-of, four-of}
 use Rattle.words.proofs.Digits.{words-two, halves-four}
 use Rattle.call.specs.Cuts.{Words, PieceOk}
-use Rattle.copy_row.specs.Columns.{TIMESTAMP, VALUE, SRC, SRC-INCR, DST, DST-INCR, COUNT, COUNT-DECR, DST-RES, FIRST, END, SINGLE, IS-SET, IS-WRITE, MU, MU-COM, MU-COM-WIDE, COLUMNS}
+use Rattle.copy_row.specs.Columns.{TIMESTAMP, VALUE, SRC, SRC-INCR, DST, DST-INCR, COUNT, COUNT-DECR, DST-RES, FIRST, END, SINGLE, IS-SET, IS-WRITE}
+use Rattle.copy_row.specs.Columns.{MU, MU-COM, MU-COM-WIDE, COLUMNS}
 use Rattle.copy_row.specs.Rows.{dstRes, muCom, rowOf}
 use Rattle.copy_meaning.specs.Steps.{RowStep}
-use Rattle.copy_meaning.specs.ReadRow.{TwoWords, FourHalves, wordsAt, halvesAt, callAt, opAt}
+use Rattle.copy_meaning.specs.ReadRow.{TwoWords, FourHalves, wordsAt, halvesAt, widthAt, callAt, opAt}
 use Rattle.copy_meaning.specs.RowIff.{InRange}
-use Rattle.copy_meaning.proofs.Plain.{Plain, widthAt, emptyAt}
-use Rattle.copy_meaning.proofs.Columns.{columns-of, stamp-words, src-words, dst-words, count-words, src-halves, dst-halves, count-halves, res-halves, value-bytes, words-below, halves-below}
+use Rattle.copy_meaning.specs.Plain.{Plain}
+use Rattle.copy_meaning.proofs.Columns.{columns-of, stamp-words, src-words, dst-words, count-words, src-halves, dst-halves, count-halves}
+use Rattle.copy_meaning.proofs.Columns.{res-halves, value-bytes, words-below}
 use Rattle.copy_meaning.proofs.Flags.{single-test, set-test, write-test, first-write-test, res-test, mu-com-test, wide-test}
+use Rattle.copy_meaning.proofs.Decrement.{decr-of}
 use Rattle.copy_meaning.proofs.StepFacts.{StepFacts, step-of-facts}
 
 -- the columns of a number are its words, its halves
@@ -34,10 +37,6 @@ half-columns row c x h e =
     halves-four x (at row c) (at row (c + 1)) (at row (c + 2)) (at row (c + 3))
     (four-of (2 ^ 16) x (at row c) (at row (c + 1)) (at row (c + 2)) (at row (c + 3)) (h .first) (h .second) (h .third) (h .fourth) (omega arith))
 
--- the wrapped difference, from the count's equation with its borrow b
-decr-of : (n d s b : ℕ) → s < 2 → n < 2 ^ 64 → d < 2 ^ 64 → b < 2 → d + (8 - 7 * s) ≡ n + 2 ^ 64 * b → d ≡ (n + (2 ^ 64 - (8 - 7 * s))) % 2 ^ 64
-decr-of n d s b hs hn hd hb e = omega arith
-
 width-cases : (s : ℕ) → s < 2 → (8 - 7 * s ≡ 1) ⊎ (8 - 7 * s ≡ 8)
 width-cases zero h = inr refl
 width-cases (suc zero) h = inl refl
@@ -45,41 +44,41 @@ width-cases (suc (suc s)) h = absurd (omega arith)
 
 module _ (gap : ℕ) (row : List ℕ) (wide : length row ≡ COLUMNS) (range : InRange row) (q : Plain gap row) where
   one : at row IS-SET + at row IS-WRITE < 2
-  one = omega (arith, q .kinds, q .mu)
+  one = omega (arith, q .flags .kinds, q .mu)
 
   dst-fits : wordsAt row DST < 2 ^ 64
   dst-fits = words-below row DST (dst-words row range)
 
   count-next : halvesAt row COUNT-DECR ≡ wrapSub (wordsAt row COUNT) (widthAt row)
   count-next =
-      decr-of (wordsAt row COUNT) (halvesAt row COUNT-DECR) (at row SINGLE) (emptyAt row) (q .single)
-      (words-below row COUNT (count-words row range)) (halves-below row COUNT-DECR (count-halves row range)) (omega arith) (q .count)
+      decr-of (wordsAt row COUNT) (halvesAt row COUNT-DECR) (widthAt row) (words-below row COUNT (count-words row range))
+      (omega (arith, q .single)) (q .count .sum)
 
   res : halvesAt row DST-RES ≡ dstRes (callAt row)
   res = q .res ∙ res-test (at row IS-SET) (at row IS-WRITE) one (wordsAt row DST) (wordsAt row COUNT) dst-fits
 
   mu-com : at row MU-COM ≡ bit (muCom (callAt row))
-  mu-com = q .mu-com ∙ mu-com-test (at row IS-SET) (at row IS-WRITE) one (wordsAt row COUNT)
+  mu-com = q .flags .mu-com ∙ mu-com-test (at row IS-SET) (at row IS-WRITE) one (wordsAt row COUNT)
 
   mu-com-wide : at row MU-COM-WIDE ≡ bit (muCom (callAt row) && eqb (widthAt row) 8)
   mu-com-wide =
-      q .mu-com-wide ∙ ap (λ x. x * (1 - at row SINGLE)) mu-com ∙ wide-test (muCom (callAt row)) (at row SINGLE) (q .single)
+      q .flags .mu-com-wide ∙ ap (λ x. x * (1 - at row SINGLE)) mu-com ∙ wide-test (muCom (callAt row)) (at row SINGLE) (q .single)
 
   pub row-same : row ≡ rowOf (at row MU) (opAt row)
   unfolding rowOf
   row-same =
       let stamp = word-columns row TIMESTAMP (stamp-words row range) in
       let src = word-columns row SRC (src-words row range) in
-      let src-incr = half-columns row SRC-INCR _ (src-halves row range) (q .src) in
+      let src-incr = half-columns row SRC-INCR _ (src-halves row range) (q .src .sum) in
       let dst = word-columns row DST (dst-words row range) in
-      let dst-incr = half-columns row DST-INCR _ (dst-halves row range) (q .dst) in
+      let dst-incr = half-columns row DST-INCR _ (dst-halves row range) (q .dst .sum) in
       let count = word-columns row COUNT (count-words row range) in
       let count-decr = half-columns row COUNT-DECR _ (count-halves row range) count-next in
       let dst-res = half-columns row DST-RES _ (res-halves row range) res in
       let single = single-test (at row SINGLE) (q .single) in
       let set = set-test (at row IS-SET) (at row IS-WRITE) one in
       let write = write-test (at row IS-SET) (at row IS-WRITE) one in
-      let first-write = q .first-write ∙ first-write-test (at row IS-SET) (at row IS-WRITE) one (at row FIRST) in
+      let first-write = q .flags .first-write ∙ first-write-test (at row IS-SET) (at row IS-WRITE) one (at row FIRST) in
       columns-of row COLUMNS wide
       ∙ (λ i.
       stamp i
@@ -140,16 +139,19 @@ module _ (gap : ℕ) (row : List ℕ) (wide : length row ≡ COLUMNS) (range : I
         words = fitting;
         piece = piece;
         live = q .mu;
-        first = q .first;
-        end = q .end;
-        kind = omega (arith, q .kinds);
+        first = q .flags .first-live;
+        end = q .flags .end-live;
+        kind = omega (arith, q .flags .kinds);
         gapped = λ e. q .gapped (omega (arith, one));
-        src-free = q .src-free;
-        dst-free = q .dst-free;
-        enough = omega (arith, q .count);
-        empty-first = q .empty-first;
-        empty-end = q .empty-end;
-        last = q .last;
+        bounds =
+            record {
+              src-free = q .src .free;
+              dst-free = q .dst .free;
+              enough = omega (arith, q .count .sum);
+              empty-first = q .flags .empty-first;
+              empty-end = q .flags .empty-end;
+              last = q .count .last;
+            };
       }
 
   pub row-step : RowStep gap (at row MU) (opAt row)

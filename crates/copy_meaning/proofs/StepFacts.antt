@@ -7,6 +7,16 @@ use native.Mathlib.Omega.{arith}
 use Rattle.call.specs.Calls.{Op}
 use Rattle.call.specs.Cuts.{Words, PieceOk}
 use Rattle.copy_meaning.specs.Steps.{Move, empty, ends, more, RowStep}
+use Rattle.copy_meaning.specs.Plain.{Free, Last}
+
+-- the inequalities: an address is free, the width is enough, an empty row opens and ends its call, a last row moves all
+pub record Bounds (mu : ℕ) (o : Op) : Type 0 where
+  pub src-free : Free (o .piece .width) mu (o .call .count) (o .call .src)
+  pub dst-free : Free (o .piece .width) mu (o .call .count) (o .call .dst)
+  pub enough : o .piece .width ≤ o .call .count + 2 ^ 64 * (1 - o .call .count)
+  pub empty-first : 1 - o .call .count ≤ o .first
+  pub empty-end : 1 - o .call .count ≤ o .end
+  pub last : Last (o .piece .width) (o .end) (o .call .count)
 
 pub record StepFacts (gap mu : ℕ) (o : Op) : Type 0 where
   pub words : Words (o .call)
@@ -16,12 +26,7 @@ pub record StepFacts (gap mu : ℕ) (o : Op) : Type 0 where
   pub end : o .end ≤ mu
   pub kind : o .call .kind ≤ 2 * mu
   pub gapped : o .call .kind ≡ 1 → o .call .dst ≡ o .call .src + gap
-  pub src-free : o .call .src + o .piece .width + 2 ^ 64 * mu < 2 * 2 ^ 64 + 2 ^ 64 * (1 - o .call .count)
-  pub dst-free : o .call .dst + o .piece .width + 2 ^ 64 * mu < 2 * 2 ^ 64 + 2 ^ 64 * (1 - o .call .count)
-  pub enough : o .piece .width ≤ o .call .count + 2 ^ 64 * (1 - o .call .count)
-  pub empty-first : 1 - o .call .count ≤ o .first
-  pub empty-end : 1 - o .call .count ≤ o .end
-  pub last : o .call .count + 2 ^ 64 * o .end ≤ o .piece .width + 2 ^ 64
+  pub bounds : Bounds mu o
 
 pub width-bounds : (w : ℕ) → (w ≡ 1) ⊎ (w ≡ 8) → (0 < w) × (w ≤ 8)
 width-bounds w (inl e) = omega arith
@@ -40,67 +45,41 @@ facts-of-step gap zero o d =
       end = omega (arith, d .end);
       kind = omega (arith, d .kind);
       gapped = λ e. absurd (omega (arith, d .kind));
-      src-free = omega (arith, d .words .src);
-      dst-free = omega (arith, d .words .dst);
-      enough = omega (arith, d .enough);
-      empty-first = omega (arith, d .enough);
-      empty-end = omega (arith, d .enough);
-      last = omega (arith, d .end, d .words .count);
+      bounds = omega (arith, d .words, d .enough, d .end);
     }
-facts-of-step gap (suc zero) o l = go (l .move)
+facts-of-step gap (suc zero) o l =
+    record {
+      words = l .words;
+      piece = l .piece;
+      live = omega arith;
+      first = l .bits;
+      end = end-of (l .move);
+      kind = l .words .kind;
+      gapped = l .gapped;
+      bounds = go (l .move);
+    }
   where
     w : (0 < o .piece .width) × (o .piece .width ≤ 8)
     w = width-bounds (o .piece .width) (l .piece .wide)
 
-    -- what the three ways to move leave open
-    made : o .end ≤ 1
-        → o .call .src + o .piece .width < 2 ^ 64 + 2 ^ 64 * (1 - o .call .count)
-        → o .call .dst + o .piece .width < 2 ^ 64 + 2 ^ 64 * (1 - o .call .count)
-        → o .piece .width ≤ o .call .count + 2 ^ 64 * (1 - o .call .count)
-        → 1 - o .call .count ≤ o .first
-        → 1 - o .call .count ≤ o .end
-        → o .call .count + 2 ^ 64 * o .end ≤ o .piece .width + 2 ^ 64
-        → StepFacts gap 1 o
-    made end src-free dst-free enough empty-first empty-end last =
-        record {
-          words = l .words;
-          piece = l .piece;
-          live = omega arith;
-          first = l .bits;
-          end = end;
-          kind = l .words .kind;
-          gapped = l .gapped;
-          src-free = omega arith;
-          dst-free = omega arith;
-          enough = enough;
-          empty-first = empty-first;
-          empty-end = empty-end;
-          last = last;
-        }
+    end-of : Move o → o .end ≤ 1
+    end-of (empty n f e) = omega arith
+    end-of (ends e n a b) = omega arith
+    end-of (more e n a b) = omega arith
 
-    go : Move o → StepFacts gap 1 o
-    go (empty n f e) =
-        made (omega arith) (omega (arith, w, l .words .src)) (omega (arith, w, l .words .dst)) (omega (arith, w)) (omega arith) (omega arith) (omega (arith, w))
-    go (ends e n a b) =
-        made (omega arith) (omega (arith, w)) (omega (arith, w)) (omega arith) (omega (arith, w)) (omega (arith, w)) (omega arith)
-    go (more e n a b) =
-        made (omega arith) (omega (arith, w)) (omega (arith, w)) (omega arith) (omega (arith, w)) (omega (arith, w)) (omega (arith, l .words .count))
+    go : Move o → Bounds 1 o
+    go (empty n f e) = omega (arith, w, l .words)
+    go (ends e n a b) = omega (arith, w)
+    go (more e n a b) = omega (arith, w, l .words)
 facts-of-step gap (suc (suc mu)) o d = absurd d
 
 -- ---- and back
 
 -- the way a live row moves, by its count and END
-move-of : (o : Op) (n e : ℕ) → o .call .count ≡ n → o .end ≡ e → o .first ≤ 1 → o .end ≤ 1
-    → o .call .src + o .piece .width < 2 ^ 64 + 2 ^ 64 * (1 - o .call .count)
-    → o .call .dst + o .piece .width < 2 ^ 64 + 2 ^ 64 * (1 - o .call .count)
-    → o .piece .width ≤ o .call .count + 2 ^ 64 * (1 - o .call .count)
-    → 1 - o .call .count ≤ o .first
-    → 1 - o .call .count ≤ o .end
-    → o .call .count + 2 ^ 64 * o .end ≤ o .piece .width + 2 ^ 64
-    → Move o
-move-of o zero e n f first end _ _ _ empty-first empty-end _ = empty (omega arith) (omega arith) (omega arith)
-move-of o (suc k) zero n f first end src dst enough empty-first empty-end last = more (omega arith) (omega arith) (omega arith) (omega arith)
-move-of o (suc k) (suc e) n f first end src dst enough empty-first empty-end last = ends (omega arith) (omega arith) (omega arith) (omega arith)
+move-of : (o : Op) (n e : ℕ) → o .call .count ≡ n → o .end ≡ e → o .first ≤ 1 → o .end ≤ 1 → Bounds 1 o → Move o
+move-of o zero e n f first end b = empty (omega arith) (omega arith) (omega arith)
+move-of o (suc k) zero n f first end b = more (omega arith) (omega arith) (omega arith) (omega arith)
+move-of o (suc k) (suc e) n f first end b = ends (omega arith) (omega arith) (omega arith) (omega arith)
 
 pub step-of-facts : (gap mu : ℕ) (o : Op) → StepFacts gap mu o → RowStep gap mu o
 step-of-facts gap zero o f =
@@ -110,7 +89,7 @@ step-of-facts gap zero o f =
       kind = omega (arith, f .kind);
       first = omega (arith, f .first);
       end = omega (arith, f .end);
-      enough = omega (arith, f .enough, f .empty-first, f .first);
+      enough = omega (arith, f .bounds, f .first);
     }
 step-of-facts gap (suc zero) o f =
     record {
@@ -118,8 +97,6 @@ step-of-facts gap (suc zero) o f =
       gapped = f .gapped;
       piece = f .piece;
       bits = f .first;
-      move =
-          move-of o (o .call .count) (o .end) refl refl (f .first) (f .end) (omega (arith, f .src-free)) (omega (arith, f .dst-free)) (f .enough)
-          (f .empty-first) (f .empty-end) (f .last);
+      move = move-of o (o .call .count) (o .end) refl refl (f .first) (f .end) (f .bounds);
     }
 step-of-facts gap (suc (suc mu)) o f = absurd (omega (arith, f .live))

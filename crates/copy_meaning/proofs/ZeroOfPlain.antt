@@ -10,15 +10,18 @@ use Rattle.lists.specs.Lists.{at}
 use Rattle.field.specs.Field.{p, addP, subP, mulP, bitP}
 use Rattle.field.proofs.Laws.{mul-below, bit-zero, sub-same, subP-small, mulP-comm}
 use Rattle.field.proofs.Bits.{gate-zero, not-both-zero, implies-zero, bit-mulP, bit-complement}
-use Rattle.copy_row.specs.Columns.{SRC, SRC-INCR, DST, DST-INCR, COUNT, COUNT-DECR, DST-RES, FIRST, END, SINGLE, IS-SET, IS-WRITE, FIRST-WRITE, MU, MU-COM, MU-COM-WIDE, COLUMNS}
-use Rattle.copy_residues.specs.Residues.{halvesWord, step, incrLow, incrHigh, decrLow, decrHigh, resLow, resHigh, gapLow, gapHigh, borrow, impliesMu, oneHot, firstWrite, gatedBit, dstResNonWrite, singleLane, borrowImplies, borrowImpliesZero, endImplies, muComIs, muComWideIs, noWrap, gapNoWrap}
+use Rattle.copy_row.specs.Columns.{SRC, DST, COUNT, COUNT-DECR, DST-RES, FIRST, END, SINGLE, IS-SET, IS-WRITE, FIRST-WRITE, MU, MU-COM, MU-COM-WIDE, COLUMNS}
+use Rattle.copy_residues.specs.Residues.{halvesWord, step, incrLow, incrHigh, decrLow, decrHigh, resLow, resHigh, gapLow, gapHigh, borrow, impliesMu}
+use Rattle.copy_residues.specs.Residues.{oneHot, firstWrite, gatedBit, dstResNonWrite, singleLane, borrowImplies, borrowImpliesZero, endImplies}
+use Rattle.copy_residues.specs.Residues.{muComIs, muComWideIs, noWrap, gapNoWrap}
 use Rattle.copy_residues.proofs.CountBorrow.{borrow-is-carry}
-use Rattle.copy_meaning.specs.ReadRow.{wordsAt, halvesAt}
+use Rattle.copy_meaning.specs.ReadRow.{TwoWords, FourHalves, wordsAt, halvesAt, widthAt, emptyAt}
+use Rattle.copy_meaning.specs.Plain.{MovesAt, Plain}
 use Rattle.copy_meaning.specs.RowIff.{InRange}
 use Rattle.copy_meaning.proofs.Check.{range-elements}
-use Rattle.copy_meaning.proofs.Plain.{Plain, widthAt, emptyAt}
 use Rattle.copy_meaning.proofs.Equations.{Equations}
-use Rattle.copy_meaning.proofs.Columns.{src-words, dst-words, count-words, src-halves, dst-halves, count-halves, res-halves, words-below, words-of, step-width}
+use Rattle.copy_meaning.proofs.Columns.{src-words, dst-words, count-words, src-halves, dst-halves, count-halves, res-halves, words-below}
+use Rattle.copy_meaning.proofs.Columns.{words-of, step-width}
 use Rattle.copy_meaning.proofs.Sums.{Sum, Carried, incr-carried, decr-carried, res-carried, gap-carried}
 use Rattle.copy_meaning.proofs.Flags.{live-product}
 
@@ -48,30 +51,20 @@ module _ (gap : ℕ) (row : List ℕ) (g : gap < 2 ^ 32) (range : InRange row) (
   element = range-elements row range
 
   first : at row FIRST < 2
-  first = omega (arith, q .first, q .mu)
+  first = omega (arith, q .flags .first-live, q .mu)
 
   end : at row END < 2
-  end = omega (arith, q .end, q .mu)
+  end = omega (arith, q .flags .end-live, q .mu)
 
   is-set : at row IS-SET < 2
-  is-set = omega (arith, q .kinds, q .mu)
+  is-set = omega (arith, q .flags .kinds, q .mu)
 
   is-write : at row IS-WRITE < 2
-  is-write = omega (arith, q .kinds, q .mu)
-
-  src : Carried (incrLow row SRC) (incrHigh row SRC) ((wordsAt row SRC + widthAt row) / 2 ^ 64)
-  src =
-      incr-carried row SRC (src-words row range) (src-halves row range) (q .single)
-      (wrapped-sum (wordsAt row SRC) (widthAt row) (halvesAt row SRC-INCR) (words-below row SRC (src-words row range)) (omega arith) (q .src))
-
-  dst : Carried (incrLow row DST) (incrHigh row DST) ((wordsAt row DST + widthAt row) / 2 ^ 64)
-  dst =
-      incr-carried row DST (dst-words row range) (dst-halves row range) (q .single)
-      (wrapped-sum (wordsAt row DST) (widthAt row) (halvesAt row DST-INCR) (words-below row DST (dst-words row range)) (omega arith) (q .dst))
+  is-write = omega (arith, q .flags .kinds, q .mu)
 
   count : Carried (decrLow row) (decrHigh row) (emptyAt row)
   count =
-      decr-carried row (count-words row range) (count-halves row range) (q .single) (record { bit = omega arith; total = q .count })
+      decr-carried row (count-words row range) (count-halves row range) (q .single) (record { bit = omega arith; total = q .count .sum })
 
   empty : borrow row ≡ emptyAt row
   empty =
@@ -89,19 +82,32 @@ module _ (gap : ℕ) (row : List ℕ) (g : gap < 2 ^ 32) (range : InRange row) (
       let o = opened (at row END) (borrow row) end borrows l in
       let w = step-width row (q .single) in
       let n = last-words (at row COUNT) (at row (COUNT + 1)) (halvesAt row COUNT-DECR) (widthAt row) (count-words row range .low) (omega arith)
-      (omega (arith, q .count, empty)) (omega (arith, q .last)) in
+      (omega (arith, q .count .sum, empty)) (omega (arith, q .count .last)) in
       (n .0, n .1 ∙ sym w)
 
   moving : subP (at row MU) (borrow row) ≡ at row MU - emptyAt row
   moving =
-      subP-small (at row MU) (borrow row) (omega (arith, q .mu)) (omega (arith, empty, q .empty-first, q .first))
+      subP-small (at row MU) (borrow row) (omega (arith, q .mu)) (omega (arith, empty, q .flags .empty-first, q .flags .first-live))
       ∙ ap (λ x. at row MU - x) empty
 
-  -- a number x that the step does not carry past 2^64 on a row that moves a byte; c is the carry
-  free : (x c : ℕ) → x < 2 ^ 64 → x + widthAt row + 2 ^ 64 * at row MU < 2 * 2 ^ 64 + 2 ^ 64 * emptyAt row
-      → c ≡ (x + widthAt row) / 2 ^ 64 → mulP (subP (at row MU) (borrow row)) c ≡ 0
-  free x c hx h e =
-      not-both-zero (subP (at row MU) (borrow row)) c (omega (arith, moving, q .mu)) (omega arith) (omega (arith, moving, q .mu))
+  -- SRC or DST and its increment
+  moves : (c : ℕ) → TwoWords row c → FourHalves row (c + 2) → MovesAt row c
+      → Carried (incrLow row c) (incrHigh row c) ((wordsAt row c + widthAt row) / 2 ^ 64) × (noWrap row c ≡ 0)
+  unfolding noWrap
+  moves c w h m =
+      let x = words-below row c w in
+      let sum = incr-carried row c w h (q .single)
+      (wrapped-sum (wordsAt row c) (widthAt row) (halvesAt row (c + 2)) x (omega arith) (m .sum)) in (
+        sum,
+        not-both-zero (subP (at row MU) (borrow row)) (incrHigh row c) (omega (arith, moving, q .mu)) (omega (arith, sum .top))
+            (omega (arith, moving, q .mu, sum .top, m .free)),
+      )
+
+  src : Carried (incrLow row SRC) (incrHigh row SRC) ((wordsAt row SRC + widthAt row) / 2 ^ 64) × (noWrap row SRC ≡ 0)
+  src = moves SRC (src-words row range) (src-halves row range) (q .src)
+
+  dst : Carried (incrLow row DST) (incrHigh row DST) ((wordsAt row DST + widthAt row) / 2 ^ 64) × (noWrap row DST ≡ 0)
+  dst = moves DST (dst-words row range) (dst-halves row range) (q .dst)
 
   -- the sums behind the gates
   res-write : 0 < at row IS-WRITE → Carried (resLow row) (resHigh row) ((wordsAt row DST + wordsAt row COUNT) / 2 ^ 64)
@@ -130,19 +136,19 @@ module _ (gap : ℕ) (row : List ℕ) (g : gap < 2 ^ 32) (range : InRange row) (
 
   -- products with a bit
   first-write : at row FIRST-WRITE ≡ mulP (at row FIRST) (at row IS-WRITE)
-  first-write = q .first-write ∙ sym (bit-mulP (at row FIRST) (at row IS-WRITE) first (omega (arith, is-write)))
+  first-write = q .flags .first-write ∙ sym (bit-mulP (at row FIRST) (at row IS-WRITE) first (omega (arith, is-write)))
 
   mu-com : at row MU-COM ≡ mulP (subP (at row MU) (borrow row)) (at row IS-WRITE)
   mu-com =
-      q .mu-com
-      ∙ sym (live-product (at row MU) (emptyAt row) (at row IS-WRITE) (q .mu) (omega (arith, q .kinds)))
+      q .flags .mu-com
+      ∙ sym (live-product (at row MU) (emptyAt row) (at row IS-WRITE) (q .mu) (omega (arith, q .flags .kinds)))
       ∙ ap (λ x. x * at row IS-WRITE) (sym moving)
       ∙ sym (bit-mulP (subP (at row MU) (borrow row)) (at row IS-WRITE) (omega (arith, moving, q .mu)) (omega (arith, is-write)))
 
   mu-com-wide : at row MU-COM-WIDE ≡ mulP (at row MU-COM) (subP 1 (at row SINGLE))
   mu-com-wide =
       let wide = bit-complement (at row SINGLE) (q .single) in
-      q .mu-com-wide
+      q .flags .mu-com-wide
       ∙ mul-comm (at row MU-COM) (1 - at row SINGLE)
       ∙ ap (λ x. x * at row MU-COM) (omega arith)
       ∙ sym (bit-mulP (subP 1 (at row SINGLE)) (at row MU-COM) (omega arith) (element MU-COM (lit< tt)))
@@ -159,15 +165,15 @@ module _ (gap : ℕ) (row : List ℕ) (g : gap < 2 ^ 32) (range : InRange row) (
         is-set = bit-zero (at row IS-SET) is-set;
         is-write = bit-zero (at row IS-WRITE) is-write;
         marks-live =
-            implies-zero (addP (at row FIRST) (at row END)) (at row MU) (q .mu) (λ z. unfold addP in omega (arith, q .first, q .end));
-        one-hot = not-both-zero (at row IS-SET) (at row IS-WRITE) is-set is-write (omega (arith, q .kinds, q .mu));
+            implies-zero (addP (at row FIRST) (at row END)) (at row MU) (q .mu) (λ z. unfold addP in omega (arith, q .flags .first-live, q .flags .end-live));
+        one-hot = not-both-zero (at row IS-SET) (at row IS-WRITE) is-set is-write (omega (arith, q .flags .kinds, q .mu));
         kinds-live =
-            implies-zero (addP (at row IS-SET) (at row IS-WRITE)) (at row MU) (q .mu) (λ z. unfold addP in omega (arith, q .kinds));
+            implies-zero (addP (at row IS-SET) (at row IS-WRITE)) (at row MU) (q .mu) (λ z. unfold addP in omega (arith, q .flags .kinds));
         first-write = equal-zero (at row FIRST-WRITE) (mulP (at row FIRST) (at row IS-WRITE)) (mul-below _ _) first-write;
-        src-low = src .low-zero;
-        src-high = src .high-zero;
-        dst-low = dst .low-zero;
-        dst-high = dst .high-zero;
+        src-low = src .0 .low-zero;
+        src-high = src .0 .high-zero;
+        dst-low = dst .0 .low-zero;
+        dst-high = dst .0 .high-zero;
         count-low = count .low-zero;
         count-high = count .high-zero;
         res-low = gate-zero (at row IS-WRITE) (bitP (resLow row)) (λ l. res-write l .low-zero);
@@ -177,17 +183,17 @@ module _ (gap : ℕ) (row : List ℕ) (g : gap < 2 ^ 32) (range : InRange row) (
         gap-low = gate-zero (at row IS-SET) (bitP (gapLow gap row)) (λ l. gapped l .low-zero);
         gap-high = gate-zero (at row IS-SET) (bitP (gapHigh gap row)) (λ l. gapped l .high-zero);
         tail = λ c low high. gate-zero (at row SINGLE) (at row c) (λ l. q .tail (omega (arith, q .single)) c low high);
-        borrow-first = implies-zero (borrow row) (at row FIRST) first (λ z. omega (arith, empty, q .empty-first));
+        borrow-first = implies-zero (borrow row) (at row FIRST) first (λ z. omega (arith, empty, q .flags .empty-first));
         zero-low = gate-zero (borrow row) (at row COUNT) (λ l. count-zero l .0);
         zero-high = gate-zero (borrow row) (at row (COUNT + 1)) (λ l. count-zero l .1);
         last-high = gate-zero (mulP (at row END) (subP 1 (borrow row))) (at row (COUNT + 1)) (λ l. last l .0);
         last-low =
             gate-zero (mulP (at row END) (subP 1 (borrow row))) (subP (at row COUNT) (step row))
             (λ l. equal-zero _ _ (omega (arith, step-width row (q .single))) (last l .1));
-        borrow-end = implies-zero (borrow row) (at row END) end (λ z. omega (arith, empty, q .empty-end));
+        borrow-end = implies-zero (borrow row) (at row END) end (λ z. omega (arith, empty, q .flags .empty-end));
         mu-com = equal-zero (at row MU-COM) (mulP (subP (at row MU) (borrow row)) (at row IS-WRITE)) (mul-below _ _) mu-com;
         mu-com-wide = equal-zero (at row MU-COM-WIDE) (mulP (at row MU-COM) (subP 1 (at row SINGLE))) (mul-below _ _) mu-com-wide;
-        src-free = free (wordsAt row SRC) (incrHigh row SRC) (words-below row SRC (src-words row range)) (q .src-free) (src .top);
-        dst-free = free (wordsAt row DST) (incrHigh row DST) (words-below row DST (dst-words row range)) (q .dst-free) (dst .top);
+        src-free = src .1;
+        dst-free = dst .1;
         gap-free = gate-zero (at row IS-SET) (gapHigh gap row) (λ l. gapped l .top);
       }

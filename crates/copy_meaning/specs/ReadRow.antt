@@ -24,6 +24,14 @@ wordsAt row c = at row c + 2 ^ 32 * at row (c + 1)
 abbrev pub halvesAt : List ℕ → ℕ → ℕ
 halvesAt row c = at row c + 2 ^ 16 * at row (c + 1) + 2 ^ 32 * at row (c + 2) + 2 ^ 48 * at row (c + 3)
 
+-- the row's width
+abbrev pub widthAt : List ℕ → ℕ
+widthAt row = 8 - 7 * at row SINGLE
+
+-- 1 where nothing is left to move, else 0: what the borrow comes to
+abbrev pub emptyAt : List ℕ → ℕ
+emptyAt row = 1 - wordsAt row COUNT
+
 -- 0 Copy, 1 Set, 2 Write
 abbrev pub kindAt : List ℕ → ℕ
 kindAt row = at row IS-SET + 2 * at row IS-WRITE
@@ -42,7 +50,7 @@ abbrev pub opAt : List ℕ → Op
 opAt row =
     record {
       call = callAt row;
-      piece = record { width = 8 - 7 * at row SINGLE; value = eightAt row VALUE };
+      piece = record { width = widthAt row; value = eightAt row VALUE };
       first = at row FIRST;
       end = at row END;
     }

@@ -1,4 +1,4 @@
-// What a copy row that passes its checks says in plain numbers.
+// What a copy row that passes its checks says in plain numbers. Assumes nothing.
 ghost use mathlib.Core.Path.{_≡_};
 ghost use mathlib.Core.Bool.{true};
 ghost use Rattle.copy_meaning.specs.Theorems.{RowMeaning};

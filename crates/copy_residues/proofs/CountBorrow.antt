@@ -8,11 +8,11 @@ use native.Mathlib.Omega.{arith}
 use Rattle.lists.specs.Lists.{at}
 use Rattle.field.specs.Field.{p, addP, subP, mulP}
 use Rattle.field.specs.Constants.{inv16, inv32, inv48, inv64, negSevenInv64, eightInv64}
+use Rattle.field.specs.Rows.{Elements}
 use Rattle.field.specs.Carries.{carryP, carryLow, carryHigh}
 use Rattle.field.proofs.Laws.{mulP-assoc, mulP-comm, addP-mulP, zero-mulP, neg-mulP}
-use Rattle.copy_row.specs.Columns.{COUNT, COUNT-DECR, SINGLE}
+use Rattle.copy_row.specs.Columns.{COUNT, COUNT-DECR, SINGLE, COLUMNS}
 use Rattle.copy_residues.specs.Residues.{halvesWord, step, decrLow, decrHigh, borrow}
-use Rattle.copy_residues.specs.Cells.{Elements}
 
 -- c times a product with a constant k, where c k is r
 combine : (c x k r : ℕ) → mulP c k ≡ r → mulP c (mulP x k) ≡ mulP r x
@@ -33,7 +33,8 @@ borrow-is-carry row h0 h1 =
       mulP-comm (at row (COUNT-DECR + 2)) inv32,
       mulP-comm (at row COUNT-DECR) inv64,
     )
-    (simp (mod-add-mod, add-mod-mod) (ap (λ x. x % p) (omega (arith, neg-mulP (at row (COUNT + 1)) inv32 h1 (omega arith), neg-mulP (at row COUNT) inv64 h0 (omega arith)))))
+    (simp (mod-add-mod, add-mod-mod) (ap (λ x. x % p)
+    (omega (arith, neg-mulP (at row (COUNT + 1)) inv32 h1 (omega arith), neg-mulP (at row COUNT) inv64 h0 (omega arith)))))
   where
     square : mulP inv32 inv32 ≡ inv64
     square = unfold mulP in refl
@@ -42,5 +43,5 @@ borrow-is-carry row h0 h1 =
     eight = unfold mulP in refl
 
 -- the same of a row of elements
-pub carried : {row : List ℕ} → Elements row → borrow row ≡ decrHigh row
+pub carried : {row : List ℕ} → Elements COLUMNS row → borrow row ≡ decrHigh row
 carried {row} h = borrow-is-carry row (h .each COUNT) (h .each (COUNT + 1))

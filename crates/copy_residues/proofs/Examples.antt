@@ -1,19 +1,10 @@
 -- The starred examples on residues, each computed. Assumes nothing.
 use mathlib.Core.Path.{refl}
-use Rattle.lists.specs.Lists.{first}
-use Rattle.field.specs.Field.{addP, subP, mulP, bitP}
-use Rattle.field.specs.Carries.{carryP, carryLow, carryHigh}
-use Rattle.copy_row.specs.Rows.{rowOf}
-use Rattle.copy_residues.specs.Range.{columnLimits, firstLarge, firstOut}
-use Rattle.copy_residues.specs.Residues.{halvesWord, step, incrLow, incrHigh, decrLow, decrHigh, resLow, resHigh, gapLow, gapHigh, borrow, impliesMu, oneHot, firstWrite, gatedBit, dstResNonWrite, singleLane, borrowImplies, borrowImpliesZero, endImplies, muComIs, muComWideIs, noWrap, gapNoWrap, residue}
-use Rattle.copy_residues.specs.RowCheck.{firstResidue, rowFault}
 use Rattle.copy_residues.specs.Examples.{ResidueExamples}
+use Rattle.copy_residues.proofs.Computing.{computing}
 
 pub residue-examples : ResidueExamples
-unfolding rowFault firstLarge firstOut columnLimits firstResidue first rowOf residue
-    halvesWord step incrLow incrHigh decrLow decrHigh resLow resHigh gapLow gapHigh borrow
-    impliesMu oneHot firstWrite gatedBit dstResNonWrite singleLane borrowImplies borrowImpliesZero endImplies muComIs muComWideIs noWrap gapNoWrap
-    carryLow carryHigh carryP bitP mulP subP addP
+unfolding computing
 residue-examples =
     record {
       below-top = refl;

@@ -1,4 +1,3 @@
-pub mod InRange
 pub mod Missed
 pub mod ZeroResidues
 pub mod RowFaults

@@ -6,8 +6,9 @@ use Prim.Native.Nat.{ℕ, _≤_, _<_}
 use native.Mathlib.Omega.{arith}
 use borrow.Author.Tests.{lt-ltb, le-ltb}
 use lib.ListN.{length}
+use Rattle.field.specs.Rows.{firstLarge}
 use Rattle.copy_row.specs.Columns.{COLUMNS}
-use Rattle.copy_residues.specs.Range.{firstLarge, firstOut}
+use Rattle.copy_residues.specs.Range.{firstOut}
 use Rattle.copy_residues.specs.Residues.{RESIDUES}
 use Rattle.copy_residues.specs.RowCheck.{firstResidue, rowFault}
 use Rattle.copy_residues.specs.declared.RowFault.the-variants.{Fine, NotElement, OutOfRange, NotZero}

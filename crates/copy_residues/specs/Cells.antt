@@ -1,19 +1,12 @@
--- What the code of the residues is given: a row of 41 elements (document 01: "An element is a whole number below p"), and what many
--- residues of a row share, worked out once. Assumes nothing.
+-- What the code of the residues is given beside a row of 41 elements: what many residues of a row share, worked out once. Assumes
+-- nothing.
 use mathlib.Core.Path.{_≡_}
 use mathlib.Core.List.{List}
 use Prim.Native.Nat.{ℕ, _<_}
-use lib.ListN.{length}
-use Rattle.lists.specs.Lists.{at}
 use Rattle.field.specs.Field.{p}
-use Rattle.copy_row.specs.Columns.{SRC, DST, COLUMNS}
+use Rattle.copy_row.specs.Columns.{SRC, DST}
 use Rattle.copy_residues.specs.Residues.{step, borrow, decrLow, incrLow, incrHigh}
 use Rattle.copy_residues.specs.declared.parts.Parts.{Parts}
-
--- a row of 41 elements
-pub record Elements (row : List ℕ) : Type 0 where
-  pub wide : length row ≡ COLUMNS
-  pub each : (c : ℕ) → at row c < p
 
 -- x is d, and an element
 abbrev pub Is : ℕ → ℕ → Type 0

@@ -3,7 +3,7 @@
 use Prim.Native.Nat.{ℕ, _^_}
 use mathlib.Core.List.{List, _++_}
 use lib.Dec.{leb}
-use lib.ListN.{length, getD, replicate}
+use lib.ListN.{getD, replicate}
 use Rattle.lists.specs.Lists.{first, at}
 use Rattle.field.specs.Field.{p}
 use Rattle.copy_row.specs.Columns.{COLUMNS}
@@ -22,10 +22,6 @@ columnLimits =
     ++ replicate 4 (2 ^ 16)
     ++ replicate 4 (2 ^ 16)
     ++ replicate 9 p
-
--- the lowest number of a list that is no element, or the list's length
-unfoldable pub firstLarge : List ℕ → ℕ
-firstLarge row = first (λ c. leb p (at row c)) 0 (length row)
 
 -- the lowest column out of range, or 41
 unfoldable pub firstOut : List ℕ → ℕ

@@ -5,8 +5,9 @@ use mathlib.Core.List.{List}
 use lib.Dec.{ltb, eqb}
 use lib.ListN.{length}
 use Rattle.lists.specs.Lists.{first}
+use Rattle.field.specs.Rows.{firstLarge}
 use Rattle.copy_row.specs.Columns.{COLUMNS}
-use Rattle.copy_residues.specs.Range.{firstLarge, firstOut}
+use Rattle.copy_residues.specs.Range.{firstOut}
 use Rattle.copy_residues.specs.Residues.{residue, RESIDUES}
 use Rattle.copy_residues.specs.declared.RowFault.{RowFault}
 use Rattle.copy_residues.specs.declared.RowFault.the-variants.{Fine, NotElement, OutOfRange, NotZero}

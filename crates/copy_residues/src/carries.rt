@@ -6,14 +6,15 @@ use copy_row::cols;
 use field::element;
 ghost use Prim.Native.Nat.{_+_, _<_};
 ghost use Rattle.field.specs.Field.{p};
+ghost use Rattle.field.specs.Rows.{Elements};
 ghost use Rattle.field.specs.Carries.{carryP, carryLow, carryHigh};
 ghost use Rattle.copy_row.specs.Columns.{COLUMNS};
 ghost use Rattle.copy_residues.specs.Residues.{halvesWord, step, incrLow, incrHigh, decrLow, resLow, resHigh, gapLow, gapHigh, borrow};
-ghost use Rattle.copy_residues.specs.Cells.{Elements, Is};
+ghost use Rattle.copy_residues.specs.Cells.{Is};
 
 // The word of the two halves from column c on, at once where they are halves.
 pub fn halves_word(row: &[u64], c: usize) -> u64
-    requires { ⌜ Elements (now row) × (c + 1 < COLUMNS) ⌝ }
+    requires { ⌜ Elements COLUMNS (now row) × (c + 1 < COLUMNS) ⌝ }
     ensures { λ r. ⌜ Is (halvesWord (now (row .entry)) c) r ⌝ }
 {
     let low = cell(row, c);
@@ -28,7 +29,7 @@ pub fn halves_word(row: &[u64], c: usize) -> u64
 
 // The row's width, at once for the two values of SINGLE that a right row has.
 pub fn step(row: &[u64]) -> u64
-    requires { ⌜ Elements (now row) ⌝ }
+    requires { ⌜ Elements COLUMNS (now row) ⌝ }
     ensures { λ r. ⌜ Is (step (now (row .entry))) r ⌝ }
 {
     let single = cell(row, cols::SINGLE);
@@ -74,7 +75,7 @@ pub fn carry_high(a: u64, b: u64, c: u64, s: u64) -> u64
 
 // The carries of the number in words at column c and the step, over the sum in halves two columns on.
 pub fn incr_low(row: &[u64], c: usize, width: u64) -> u64
-    requires { ⌜ Elements (now row) × (c + 5 < COLUMNS) ⌝ }
+    requires { ⌜ Elements COLUMNS (now row) × (c + 5 < COLUMNS) ⌝ }
     requires { ⌜ Is (step (now row)) width ⌝ }
     ensures { λ r. ⌜ Is (incrLow (now (row .entry)) c) r ⌝ }
 {
@@ -82,7 +83,7 @@ pub fn incr_low(row: &[u64], c: usize, width: u64) -> u64
 }
 
 pub fn incr_high(row: &[u64], c: usize, low: u64) -> u64
-    requires { ⌜ Elements (now row) × (c + 5 < COLUMNS) ⌝ }
+    requires { ⌜ Elements COLUMNS (now row) × (c + 5 < COLUMNS) ⌝ }
     requires { ⌜ Is (incrLow (now row) c) low ⌝ }
     ensures { λ r. ⌜ Is (incrHigh (now (row .entry)) c) r ⌝ }
 {
@@ -92,7 +93,7 @@ pub fn incr_high(row: &[u64], c: usize, low: u64) -> u64
 // The borrows of COUNT - step: the carries of COUNT_DECR and the step, over COUNT. The second is what copy.rs writes out over the columns
 // (`borrow_1`).
 pub fn decr_low(row: &[u64], width: u64) -> u64
-    requires { ⌜ Elements (now row) ⌝ }
+    requires { ⌜ Elements COLUMNS (now row) ⌝ }
     requires { ⌜ Is (step (now row)) width ⌝ }
     ensures { λ r. ⌜ Is (decrLow (now (row .entry))) r ⌝ }
 {
@@ -104,7 +105,7 @@ pub fn decr_low(row: &[u64], width: u64) -> u64
 }
 
 pub fn count_borrow(row: &[u64], low: u64) -> u64
-    requires { ⌜ Elements (now row) ⌝ }
+    requires { ⌜ Elements COLUMNS (now row) ⌝ }
     requires { ⌜ Is (decrLow (now row)) low ⌝ }
     ensures { λ r. ⌜ Is (borrow (now (row .entry))) r ⌝ }
 {
@@ -118,7 +119,7 @@ pub fn count_borrow(row: &[u64], low: u64) -> u64
 
 // The carries of DST and COUNT, over DST_RES.
 pub fn res_low(row: &[u64]) -> u64
-    requires { ⌜ Elements (now row) ⌝ }
+    requires { ⌜ Elements COLUMNS (now row) ⌝ }
     ensures { λ r. ⌜ Is (resLow (now (row .entry))) r ⌝ }
 {
     carry_low(
@@ -129,7 +130,7 @@ pub fn res_low(row: &[u64]) -> u64
 }
 
 pub fn res_high(row: &[u64]) -> u64
-    requires { ⌜ Elements (now row) ⌝ }
+    requires { ⌜ Elements COLUMNS (now row) ⌝ }
     ensures { λ r. ⌜ Is (resHigh (now (row .entry))) r ⌝ }
 {
     carry_high(
@@ -142,14 +143,14 @@ pub fn res_high(row: &[u64]) -> u64
 
 // The carries of SRC and the gap, over DST.
 pub fn gap_low(gap: u64, row: &[u64]) -> u64
-    requires { ⌜ Elements (now row) × (gap < p) ⌝ }
+    requires { ⌜ Elements COLUMNS (now row) × (gap < p) ⌝ }
     ensures { λ r. ⌜ Is (gapLow gap (now (row .entry))) r ⌝ }
 {
     carry_low(cell(row, cols::SRC_0), gap, cell(row, cols::DST_0))
 }
 
 pub fn gap_high(gap: u64, row: &[u64]) -> u64
-    requires { ⌜ Elements (now row) × (gap < p) ⌝ }
+    requires { ⌜ Elements COLUMNS (now row) × (gap < p) ⌝ }
     ensures { λ r. ⌜ Is (gapHigh gap (now (row .entry))) r ⌝ }
 {
     carry_high(

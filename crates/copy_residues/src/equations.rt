@@ -9,14 +9,17 @@ ghost use mathlib.Core.Path.{_≡_};
 ghost use Prim.Native.Nat.{_+_, _<_};
 ghost use Rattle.lists.specs.Lists.{at};
 ghost use Rattle.field.specs.Field.{p, subP, bitP};
+ghost use Rattle.field.specs.Rows.{Elements};
 ghost use Rattle.copy_row.specs.Columns.{COUNT, IS-SET, IS-WRITE, COLUMNS};
-ghost use Rattle.copy_residues.specs.Residues.{step, resLow, resHigh, gapLow, gapHigh, borrow, incrHigh, impliesMu, oneHot, firstWrite, gatedBit, dstResNonWrite, singleLane, borrowImplies, borrowImpliesZero, endImplies, muComIs, muComWideIs, noWrap, gapNoWrap};
-ghost use Rattle.copy_residues.specs.Cells.{Elements, Is};
+ghost use Rattle.copy_residues.specs.Residues.{step, resLow, resHigh, gapLow, gapHigh, borrow, incrHigh};
+ghost use Rattle.copy_residues.specs.Residues.{impliesMu, oneHot, firstWrite, gatedBit, dstResNonWrite, singleLane, borrowImplies};
+ghost use Rattle.copy_residues.specs.Residues.{borrowImpliesZero, endImplies, muComIs, muComWideIs, noWrap, gapNoWrap};
+ghost use Rattle.copy_residues.specs.Cells.{Is};
 
 // range_first, range_end, range_single, range_mu, range_is_set, range_is_write: column c is a bit. Without it a flag could be any element
 // and weigh an access by it.
 pub fn bit(row: &[u64], c: usize) -> u64
-    requires { ⌜ Elements (now row) × (c < COLUMNS) ⌝ }
+    requires { ⌜ Elements COLUMNS (now row) × (c < COLUMNS) ⌝ }
     ensures { λ r. ⌜ r ≡ bitP (at (now (row .entry)) c) ⌝ }
 {
     element::is_bit(cell(row, c))
@@ -25,7 +28,7 @@ pub fn bit(row: &[u64], c: usize) -> u64
 // first_or_end_implies_mu (FIRST, END), functionality_implies_mu (IS_SET, IS_WRITE): these flags stand on a live row only. Without it a
 // dead row could open or end a call, or be a Set or a Write.
 pub fn implies_mu(row: &[u64], a: usize, b: usize) -> u64
-    requires { ⌜ Elements (now row) × (a < COLUMNS) × (b < COLUMNS) ⌝ }
+    requires { ⌜ Elements COLUMNS (now row) × (a < COLUMNS) × (b < COLUMNS) ⌝ }
     ensures { λ r. ⌜ r ≡ impliesMu (now (row .entry)) a b ⌝ }
 {
     element::times(
@@ -36,7 +39,7 @@ pub fn implies_mu(row: &[u64], a: usize, b: usize) -> u64
 
 // one_hot: a row is no Set and Write at once. Without it one row could have two kinds.
 pub fn one_hot(row: &[u64]) -> u64
-    requires { ⌜ Elements (now row) ⌝ }
+    requires { ⌜ Elements COLUMNS (now row) ⌝ }
     ensures { λ r. ⌜ r ≡ oneHot (now (row .entry)) ⌝ }
 {
     element::times(cell(row, cols::IS_SET), cell(row, cols::IS_WRITE))
@@ -44,7 +47,7 @@ pub fn one_hot(row: &[u64]) -> u64
 
 // first_write: FIRST_WRITE is FIRST on a Write. Without it a Write could begin without the check of register 10.
 pub fn first_write(row: &[u64]) -> u64
-    requires { ⌜ Elements (now row) ⌝ }
+    requires { ⌜ Elements COLUMNS (now row) ⌝ }
     ensures { λ r. ⌜ r ≡ firstWrite (now (row .entry)) ⌝ }
 {
     element::sub(
@@ -55,7 +58,7 @@ pub fn first_write(row: &[u64]) -> u64
 
 // dst_res_is_write: on a Write DST_RES is DST + COUNT, word by word. Without them a Write could hand back any commit index.
 pub fn dst_res_low(row: &[u64]) -> u64
-    requires { ⌜ Elements (now row) ⌝ }
+    requires { ⌜ Elements COLUMNS (now row) ⌝ }
     ensures { λ r. ⌜ r ≡ gatedBit (now (row .entry)) IS-WRITE (resLow (now (row .entry))) ⌝ }
 {
     let write = cell(row, cols::IS_WRITE);
@@ -66,7 +69,7 @@ pub fn dst_res_low(row: &[u64]) -> u64
 }
 
 pub fn dst_res_high(row: &[u64]) -> u64
-    requires { ⌜ Elements (now row) ⌝ }
+    requires { ⌜ Elements COLUMNS (now row) ⌝ }
     ensures { λ r. ⌜ r ≡ gatedBit (now (row .entry)) IS-WRITE (resHigh (now (row .entry))) ⌝ }
 {
     let write = cell(row, cols::IS_WRITE);
@@ -79,7 +82,7 @@ pub fn dst_res_high(row: &[u64]) -> u64
 // dst_res_non_write: DST_RES is DST on a row that is no Write, w 0 for the low word, 1 for the high one. Without it a Copy or a Set could
 // hand back any address.
 pub fn dst_res_non_write(row: &[u64], w: usize) -> u64
-    requires { ⌜ Elements (now row) × (w < 2) ⌝ }
+    requires { ⌜ Elements COLUMNS (now row) × (w < 2) ⌝ }
     ensures { λ r. ⌜ r ≡ dstResNonWrite (now (row .entry)) w ⌝ }
 {
     let moved = element::sub(
@@ -91,7 +94,7 @@ pub fn dst_res_non_write(row: &[u64], w: usize) -> u64
 
 // set_gap: on a Set DST is SRC + gap, word by word. Without them a Set could copy a cell onto itself and put any bytes there.
 pub fn set_gap_low(gap: u64, row: &[u64]) -> u64
-    requires { ⌜ Elements (now row) × (gap < p) ⌝ }
+    requires { ⌜ Elements COLUMNS (now row) × (gap < p) ⌝ }
     ensures { λ r. ⌜ r ≡ gatedBit (now (row .entry)) IS-SET (gapLow gap (now (row .entry))) ⌝ }
 {
     let set = cell(row, cols::IS_SET);
@@ -102,7 +105,7 @@ pub fn set_gap_low(gap: u64, row: &[u64]) -> u64
 }
 
 pub fn set_gap_high(gap: u64, row: &[u64]) -> u64
-    requires { ⌜ Elements (now row) × (gap < p) ⌝ }
+    requires { ⌜ Elements COLUMNS (now row) × (gap < p) ⌝ }
     ensures { λ r. ⌜ r ≡ gatedBit (now (row .entry)) IS-SET (gapHigh gap (now (row .entry))) ⌝ }
 {
     let set = cell(row, cols::IS_SET);
@@ -114,7 +117,7 @@ pub fn set_gap_high(gap: u64, row: &[u64]) -> u64
 
 // single_lanes: value column c is 0 on a row of one byte. Without it such a row could carry seven bytes more.
 pub fn single_lane(row: &[u64], c: usize) -> u64
-    requires { ⌜ Elements (now row) × (c < COLUMNS) ⌝ }
+    requires { ⌜ Elements COLUMNS (now row) × (c < COLUMNS) ⌝ }
     ensures { λ r. ⌜ r ≡ singleLane (now (row .entry)) c ⌝ }
 {
     element::times(cell(row, cols::SINGLE), cell(row, c))
@@ -123,7 +126,7 @@ pub fn single_lane(row: &[u64], c: usize) -> u64
 // borrow_implies_first (FIRST), borrow_implies_end (END): a row that borrows has the mark in column c. Without it an empty row could
 // stand inside a call, or a call of count 0 go on.
 pub fn borrow_implies(row: &[u64], borrowed: u64, c: usize) -> u64
-    requires { ⌜ Elements (now row) × (c < COLUMNS) ⌝ }
+    requires { ⌜ Elements COLUMNS (now row) × (c < COLUMNS) ⌝ }
     requires { ⌜ Is (borrow (now row)) borrowed ⌝ }
     ensures { λ r. ⌜ r ≡ borrowImplies (now (row .entry)) c ⌝ }
 {
@@ -132,7 +135,7 @@ pub fn borrow_implies(row: &[u64], borrowed: u64, c: usize) -> u64
 
 // borrow_implies_count_is_zero: word c of COUNT is 0 where the row borrows. Without it a row could move more bytes than are left.
 pub fn borrow_implies_zero(row: &[u64], borrowed: u64, c: usize) -> u64
-    requires { ⌜ Elements (now row) × (c < COLUMNS) ⌝ }
+    requires { ⌜ Elements COLUMNS (now row) × (c < COLUMNS) ⌝ }
     requires { ⌜ Is (borrow (now row)) borrowed ⌝ }
     ensures { λ r. ⌜ r ≡ borrowImpliesZero (now (row .entry)) c ⌝ }
 {
@@ -142,7 +145,7 @@ pub fn borrow_implies_zero(row: &[u64], borrowed: u64, c: usize) -> u64
 // end_implies_count_is_step_or_zc_upper and _lower: a last row that does not borrow has as many bytes left as it moves. Without them a
 // call could end with bytes unmoved.
 pub fn end_implies_upper(row: &[u64], borrowed: u64) -> u64
-    requires { ⌜ Elements (now row) ⌝ }
+    requires { ⌜ Elements COLUMNS (now row) ⌝ }
     requires { ⌜ Is (borrow (now row)) borrowed ⌝ }
     ensures { λ r. ⌜ r ≡ endImplies (now (row .entry)) (at (now (row .entry)) (COUNT + 1)) ⌝ }
 {
@@ -153,7 +156,7 @@ pub fn end_implies_upper(row: &[u64], borrowed: u64) -> u64
 }
 
 pub fn end_implies_lower(row: &[u64], borrowed: u64, width: u64) -> u64
-    requires { ⌜ Elements (now row) ⌝ }
+    requires { ⌜ Elements COLUMNS (now row) ⌝ }
     requires { ⌜ Is (borrow (now row)) borrowed × Is (step (now row)) width ⌝ }
     ensures { λ r. ⌜ r ≡ endImplies (now (row .entry)) (subP (at (now (row .entry)) COUNT) (step (now (row .entry)))) ⌝ }
 {
@@ -163,7 +166,7 @@ pub fn end_implies_lower(row: &[u64], borrowed: u64, width: u64) -> u64
 
 // MU_COM is MU - borrow on a Write, else 0. Without it a Write's bytes could be left out of the output, or bytes put in that it has not.
 pub fn mu_com(row: &[u64], borrowed: u64) -> u64
-    requires { ⌜ Elements (now row) ⌝ }
+    requires { ⌜ Elements COLUMNS (now row) ⌝ }
     requires { ⌜ Is (borrow (now row)) borrowed ⌝ }
     ensures { λ r. ⌜ r ≡ muComIs (now (row .entry)) ⌝ }
 {
@@ -176,7 +179,7 @@ pub fn mu_com(row: &[u64], borrowed: u64) -> u64
 
 // MU_COM_WIDE is MU_COM on a row of eight bytes, else 0. Without it a Write of one byte could put out eight.
 pub fn mu_com_wide(row: &[u64]) -> u64
-    requires { ⌜ Elements (now row) ⌝ }
+    requires { ⌜ Elements COLUMNS (now row) ⌝ }
     ensures { λ r. ⌜ r ≡ muComWideIs (now (row .entry)) ⌝ }
 {
     let wide = element::times(
@@ -189,7 +192,7 @@ pub fn mu_com_wide(row: &[u64]) -> u64
 // The sum of the address at column c and the step does not pass 2^64 on a row that moves bytes; `high` is its carry. Without it a call
 // could run past the last address and go on at 0.
 pub fn no_wrap(row: &[u64], borrowed: u64, c: usize, high: u64) -> u64
-    requires { ⌜ Elements (now row) ⌝ }
+    requires { ⌜ Elements COLUMNS (now row) ⌝ }
     requires { ⌜ Is (borrow (now row)) borrowed × Is (incrHigh (now row) c) high ⌝ }
     ensures { λ r. ⌜ r ≡ noWrap (now (row .entry)) c ⌝ }
 {
@@ -198,7 +201,7 @@ pub fn no_wrap(row: &[u64], borrowed: u64, c: usize, high: u64) -> u64
 
 // The sum of SRC and the gap does not pass 2^64 on a Set. Without it a Set of single bytes could run from the last addresses to the first.
 pub fn gap_no_wrap(gap: u64, row: &[u64]) -> u64
-    requires { ⌜ Elements (now row) × (gap < p) ⌝ }
+    requires { ⌜ Elements COLUMNS (now row) × (gap < p) ⌝ }
     ensures { λ r. ⌜ r ≡ gapNoWrap gap (now (row .entry)) ⌝ }
 {
     let set = cell(row, cols::IS_SET);

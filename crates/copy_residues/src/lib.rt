@@ -11,8 +11,11 @@ use answer::Answer;
 use answer::accept;
 use answer::refuse;
 use copy_row::cols;
+use field::rows::RowRefusal;
+use field::rows::RowVerdict;
+use field::rows::row_refusal_numbers;
+use field::rows::row_verdict;
 use parts::parts_of;
-use range::first_large;
 use residues::NUM_RESIDUES;
 use residues::residue_with;
 ghost use mathlib.Core.Path.{_≡_};
@@ -23,12 +26,8 @@ pub enum ResidueAnswer {
     Residue(u64),
     // 7: the gap is 2^32 or more
     GapTooLarge,
-    // 12: the table has no residue of this number
-    NoResidue,
-    // 13: the row has not 41 numbers
-    NotRow,
-    // 14: a number not below p, the lowest one's index
-    NotElement { place: u64 },
+    // 12, 13, 14
+    Refused { why: RowRefusal },
 }
 
 // What the checks of one row find: nothing, or the first that fails.
@@ -49,19 +48,10 @@ pub fn residue(gap: u64, row: &[u64], number: u64) -> ResidueAnswer
     if 0x1_0000_0000 <= gap {
         return ResidueAnswer::GapTooLarge;
     }
-    if NUM_RESIDUES <= number {
-        return ResidueAnswer::NoResidue;
+    match row_verdict(number < NUM_RESIDUES, cols::NUM_COLUMNS, row) {
+        RowVerdict::Fine => ResidueAnswer::Residue(residue_with(row, parts_of(gap, row), number)),
+        RowVerdict::Refused { why } => ResidueAnswer::Refused { why },
     }
-    if row.len() != cols::NUM_COLUMNS {
-        return ResidueAnswer::NotRow;
-    }
-    let large = first_large(row);
-    if large < cols::NUM_COLUMNS {
-        return ResidueAnswer::NotElement {
-            place: large as u64,
-        };
-    }
-    ResidueAnswer::Residue(residue_with(row, parts_of(gap, row), number))
 }
 
 // Document 01's number, place and value of an answer.
@@ -71,8 +61,6 @@ pub fn residue_numbers(a: ResidueAnswer) -> Answer
     match a {
         ResidueAnswer::Residue(value) => accept(value),
         ResidueAnswer::GapTooLarge => refuse(7, 0),
-        ResidueAnswer::NoResidue => refuse(12, 0),
-        ResidueAnswer::NotRow => refuse(13, 0),
-        ResidueAnswer::NotElement { place } => refuse(14, place),
+        ResidueAnswer::Refused { why } => row_refusal_numbers(why),
     }
 }

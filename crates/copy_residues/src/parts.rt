@@ -4,7 +4,9 @@ use copy_row::cols;
 ghost use mathlib.Core.Path.{_≡_};
 ghost use Prim.Native.Nat.{_<_};
 ghost use Rattle.field.specs.Field.{p};
-ghost use Rattle.copy_residues.specs.Cells.{Elements, PartsOf};
+ghost use Rattle.field.specs.Rows.{Elements};
+ghost use Rattle.copy_row.specs.Columns.{COLUMNS};
+ghost use Rattle.copy_residues.specs.Cells.{PartsOf};
 
 // The gap, and what a row's residues share.
 pub struct Parts {
@@ -23,7 +25,7 @@ pub struct Parts {
 
 // The parts of a row.
 pub fn parts_of(gap: u64, row: &[u64]) -> Parts
-    requires { ⌜ Elements (now row) × (gap < p) ⌝ }
+    requires { ⌜ Elements COLUMNS (now row) × (gap < p) ⌝ }
     ensures { λ r. ⌜ PartsOf (now (row .entry)) r × (r .gap ≡ gap) ⌝ }
 {
     let step = carries::step(row);

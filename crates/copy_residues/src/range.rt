@@ -5,7 +5,7 @@ use field::element::P;
 ghost use mathlib.Core.Path.{_≡_};
 ghost use lib.ListN.{length};
 ghost use Rattle.copy_row.specs.Columns.{COLUMNS};
-ghost use Rattle.copy_residues.specs.Range.{firstLarge, firstOut};
+ghost use Rattle.copy_residues.specs.Range.{firstOut};
 
 const BYTE: u64 = 0x100;
 
@@ -58,20 +58,6 @@ const LIMITS: [u64; 41] = [
     P,
     P,
 ];
-
-// The lowest number of a slice of any length that is no element, or the length: 14.
-pub fn first_large(row: &[u64]) -> usize
-    ensures { λ r. ⌜ r ≡ firstLarge (now (row .entry)) ⌝ }
-{
-    let mut c = 0;
-    while c < row.len() {
-        if P <= row[c] {
-            return c;
-        }
-        c += 1;
-    }
-    c
-}
 
 // The lowest column out of range, or 41: 15. The limits are bound before the loop, or each turn would store all of them again.
 pub fn first_out(row: &[u64]) -> usize

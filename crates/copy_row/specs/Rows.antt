@@ -61,8 +61,8 @@ unfoldable pub paddingRow : List ℕ
 paddingRow = replicate 12 0 ++ (8 ∷ replicate 5 0) ++ (8 ∷ replicate 3 0) ++ (8 ∷ replicate 18 0)
 
 -- the operation record that the code's struct holds
-abbrev pub operation : CopyOperation → Op
-operation o =
+abbrev pub copyOperation : CopyOperation → Op
+copyOperation o =
     record {
       call = record { kind = o .kind; stamp = o .timestamp; src = o .src; dst = o .dst; count = o .count };
       piece = record { width = o .width; value = o .value };

@@ -4,10 +4,10 @@ pub mod cols;
 pub mod row;
 pub mod trace;
 
-ghost use mathlib.Core.Path.{_≡_};
-ghost use lib.ListN.{length};
+ghost use Rattle.records.specs.Records.{LIMIT};
 ghost use Rattle.records.specs.Table.{tableNumbers};
-ghost use Rattle.copy_row.specs.Trace.{copyAnswer, copyAfter};
+ghost use Rattle.copy_row.specs.Trace.{CopyDone};
+use records::LIMIT;
 use records::TableAnswer;
 
 // An operation record: one row's piece of a call, with the call as it remains at this row. The kind is its number.
@@ -28,8 +28,7 @@ pub struct CopyOperation {
 // Makes the copy table of at most 65,536 operation records in `table`, 41 numbers to a row: the rows of the records in their order, then
 // padding. Refuses with 8, 10 and 9, in this order, and then writes nothing.
 pub fn generate_copy_trace(ops: &[u64], table: &mut [u64]) -> TableAnswer
-    ensures answer { λ r. ⌜ tableNumbers 8 r ≡ tableNumbers 8 (copyAnswer 65536 (now (ops .entry)) (length (now (table .entry)))) ⌝ }
-    ensures table { λ r. ⌜ now (table .exit) ≡ copyAfter (now (ops .entry)) (copyAnswer 65536 (now (ops .entry)) (length (now (table .entry)))) (now (table .entry)) ⌝ }
+    ensures { λ r. ⌜ CopyDone LIMIT 8 (now (ops .entry)) (now (table .entry)) (tableNumbers 8 r) (now (table .exit)) ⌝ }
 {
-    trace::make(65536, ops, table)
+    trace::make(LIMIT, ops, table)
 }

@@ -5,7 +5,7 @@ ghost use lib.ListN.{length};
 ghost use Rattle.words.specs.Words.{bit};
 ghost use Rattle.call.specs.Ops.{opOf, OP-WIDTH};
 ghost use Rattle.copy_row.specs.Columns.{COLUMNS};
-ghost use Rattle.copy_row.specs.Rows.{operation, dstRes, tableRow, paddingRow};
+ghost use Rattle.copy_row.specs.Rows.{copyOperation, dstRes, tableRow, paddingRow};
 ghost use Rattle.copy_row.specs.Trace.{copyRow};
 use crate::CopyOperation;
 use crate::cols;
@@ -19,7 +19,7 @@ use words::wrapping_sub;
 // The operation of a record of 16 numbers.
 pub fn operation(op: &[u64]) -> CopyOperation
     requires { ⌜ length (now op) ≡ OP-WIDTH ⌝ }
-    ensures { λ r. ⌜ operation r ≡ opOf (now (op .entry)) ⌝ }
+    ensures { λ r. ⌜ copyOperation r ≡ opOf (now (op .entry)) ⌝ }
 {
     CopyOperation {
         timestamp: op[0],
@@ -43,7 +43,7 @@ fn when(b: bool, x: u64) -> u64
 
 // The value written back to the register of dst: dst + count for a Write, else dst.
 fn dst_res(op: CopyOperation) -> u64
-    ensures { λ r. ⌜ r ≡ dstRes (operation op .call) ⌝ }
+    ensures { λ r. ⌜ r ≡ dstRes (copyOperation op .call) ⌝ }
 {
     if op.kind == 2 {
         wrapping_add(op.dst, op.count)
@@ -54,7 +54,7 @@ fn dst_res(op: CopyOperation) -> u64
 
 // The 41 columns of an operation's row. INCR, DECR and RES are "sums taken modulo 2^64, as the Rust's wrapping calls".
 fn cells(op: CopyOperation) -> [u64; 41]
-    ensures { λ r. ⌜ r ≡ tableRow (operation op) ⌝ }
+    ensures { λ r. ⌜ r ≡ tableRow (copyOperation op) ⌝ }
 {
     let timestamp = words(op.timestamp);
     let value = op.value;
@@ -125,7 +125,7 @@ pub fn write_padding(row: &mut [u64])
     requires { ⌜ length (now row) ≡ COLUMNS ⌝ }
     ensures { λ _. ⌜ now (row .exit) ≡ paddingRow ⌝ }
 {
-    let mut padding = [0; 41];
+    let mut padding = [0; cols::NUM_COLUMNS];
     padding[cols::COUNT_0] = 8;
     padding[cols::SRC_INCR_0] = 8;
     padding[cols::DST_INCR_0] = 8;

@@ -16,7 +16,6 @@ use records::TableAnswer;
 use records::tables::record_at;
 use records::tables::record_count;
 use records::tables::table_answer;
-use records::tables::within_limits;
 
 // The lowest of the n records that is not good, or n.
 fn first_bad(ops: &[u64], n: usize) -> usize
@@ -64,7 +63,10 @@ fn write_rows(ops: &[u64], table: &mut [u64], rows: usize)
 pub fn make(limit: usize, ops: &[u64], table: &mut [u64]) -> TableAnswer
     requires { ⌜ limit ≤ 2 ^ 20 ⌝ }
     ensures answer { λ r. ⌜ r ≡ copyAnswer limit (now (ops .entry)) (length (now (table .entry))) ⌝ }
-    ensures table { λ r. ⌜ now (table .exit) ≡ copyAfter (now (ops .entry)) (copyAnswer limit (now (ops .entry)) (length (now (table .entry)))) (now (table .entry)) ⌝ }
+    ensures table { λ r. ⌜
+        now (table .exit)
+        ≡ copyAfter (now (ops .entry)) (copyAnswer limit (now (ops .entry)) (length (now (table .entry)))) (now (table .entry))
+        ⌝ }
 {
     let answer = copy_answer(limit, ops, table.len());
     if let TableAnswer::Made { rows } = answer {

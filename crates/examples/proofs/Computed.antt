@@ -3,7 +3,7 @@ use mathlib.Core.Path.{refl}
 use Rattle.field.specs.Field.{mulP}
 use Rattle.records.specs.RowCount.{rowCount, doubled}
 use Rattle.classify.proofs.Examples.{route-examples}
-use Rattle.memw_rows.proofs.Examples.{carry-examples}
+use Rattle.memw.proofs.Examples.{carry-examples}
 use Rattle.copy_residues.proofs.Examples.{residue-examples}
 use Rattle.examples.specs.Examples.{StarredExamples}
 

@@ -5,7 +5,7 @@ use Prim.Native.Nat.{_-_, _^_}
 use Rattle.field.specs.Field.{p, mulP}
 use Rattle.records.specs.RowCount.{rowCount}
 use Rattle.classify.specs.RouteExamples.{RouteExamples}
-use Rattle.memw_rows.specs.CarryExamples.{CarryExamples}
+use Rattle.memw.specs.CarryExamples.{CarryExamples}
 use Rattle.copy_residues.specs.Examples.{ResidueExamples}
 
 pub record StarredExamples : Type 0 where

@@ -1,4 +1,4 @@
-// The starred examples of document 01, under one theorem.
+// The starred examples of document 01, under one theorem. Assumes nothing.
 ghost use mathlib.Core.Path.{_≡_};
 ghost use mathlib.Core.Bool.{true};
 ghost use Rattle.examples.specs.Examples.{StarredExamples};

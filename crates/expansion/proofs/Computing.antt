@@ -2,8 +2,8 @@
 -- Assumes nothing.
 use Rattle.expansion_rows.proofs.Computing as expansion_rows
 use Rattle.expansion.specs.Refusals.{refusals, answerBy}
-use Rattle.expansion.specs.Expansion.{callOps, callBytes, callStamps, callAccesses, expanded, lentAfter}
+use Rattle.expansion.specs.Expansion.{opsBy, bytesBy, stampsBy, accessesBy, expanded, lentAfter}
 
 unfoldable pub computing : Unit {0}
-unfolding expansion_rows.computing refusals answerBy callOps callBytes callStamps callAccesses expanded lentAfter
+unfolding expansion_rows.computing refusals answerBy opsBy bytesBy stampsBy accessesBy expanded lentAfter
 computing = tt

@@ -1,7 +1,7 @@
 -- What it takes to be accepted, both ways: an answer of number 0 says that the call is fair and has room, and a fair call with room is
 -- accepted. Assumes nothing.
 use mathlib.Core.Path.{_≡_, refl, ap}
-use mathlib.Core.Bool.{Bool, true, false, not, _&&_, _||_}
+use mathlib.Core.Bool.{Bool, true, false, not, _&&_}
 use Prim.Native.Nat.{ℕ, zero, suc, _+_, _-_, _*_, _^_, _≤_, _<_}
 use native.Mathlib.Omega.{arith}
 use borrow.Author.Tests.{lt-ltb, le-ltb, ltb-true, ltb-false, leb-false, lt-leb, eq-eqb, ne-eqb, eqb-true, eqb-false, not-true, not-false}
@@ -13,7 +13,8 @@ use Rattle.call.specs.Calls.{Call}
 use Rattle.call.specs.Ops.{OP-WIDTH}
 use Rattle.access.specs.Access.{ACCESS-WIDTH}
 use Rattle.expansion.specs.Tries.{Setting, Lengths}
-use Rattle.expansion.specs.Refusals.{opCount, accessCount, gapTooLarge, badWindow, lastStamp, notGapApart, pastIndex, outsideWindow, bufferShort, refusals, answerBy}
+use Rattle.expansion.specs.Refusals.{opCount, accessCount, gapTooLarge, badWindow, lastStamp, notGapApart, pastIndex, outsideWindow}
+use Rattle.expansion.specs.Refusals.{bufferShort, refusals, answerBy}
 
 -- Tests
 

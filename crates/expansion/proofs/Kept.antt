@@ -1,27 +1,27 @@
--- What a call leaves alone: bytes outside its destination, stamps outside its source and destination. Row by row: a row writes its
--- destination, if it is a Set's, and then puts its source bytes back where they stood. Assumes nothing.
+-- What a call leaves alone, however it is cut: bytes outside its destination, stamps outside its source and destination. Row by row: a row
+-- writes its destination, if it is a Set's, and then puts its source bytes back where they stood. Assumes nothing.
 use mathlib.Core.Path.{_≡_, refl, sym, ap, _∙_}
 use mathlib.Core.Logic.{inl, inr}
 use mathlib.Core.Bool.{Bool, true, false, cond}
-use mathlib.Core.List.{List, []}
+use mathlib.Core.List.{List, [], _∷_}
 use Prim.Native.Nat.{ℕ, _+_, _-_, _≤_, _<_}
 use native.Mathlib.Omega.{arith}
 use borrow.Author.Tests.{eqb-true, eqb-false}
 use lib.Dec.{eqb}
 use lib.ListN.{length, getD}
 use Rattle.lists.proofs.Places.{Where, below, inside, above, where-is}
-use Rattle.call.specs.Calls.{Call, Op}
+use Rattle.call.specs.Calls.{Call}
+use Rattle.call.specs.Cuts.{rest, CutInto}
+use Rattle.call.proofs.Cuts.{first-eight, first-within, rest-cut}
 use Rattle.window.specs.Window.{writeBytes, writeStamps}
 use Rattle.window.proofs.Window.{length-cells, length-bytes}
 use Rattle.window.proofs.SingleCells.{cells-at, write-below, write-above, write-inside, stamps-below, stamps-above}
-use Rattle.expansion_rows.specs.Rows.{copyRowWidth, rowOf, rowsFrom, rowsOf}
+use Rattle.expansion_rows.specs.Rows.{rowWith, rowsBy}
 use Rattle.expansion_rows.specs.Turns.{inverted, readStamp, writeStamp, valueAt, turnBytes, turnStamps, rowOp, rowOps, passBytes, passStamps}
 use Rattle.expansion_rows.specs.Held.{heldBytes, heldStamps, heldAllBytes, heldAllStamps}
-use Rattle.expansion_rows.proofs.Width.{width-eight, width-within}
 use Rattle.expansion_rows.proofs.Lengths.{turn-bytes-length}
-use Rattle.expansion.specs.Expansion.{deferred}
+use Rattle.expansion.specs.Expansion.{deferredBy}
 use Rattle.expansion.specs.Consequences.{Outside}
-use Rattle.expansion.proofs.ByRow.{call-ind, no-bytes, no-stamps, no-ops, row-bytes, row-stamps, row-ops}
 
 -- Outside a range, outside its parts
 
@@ -80,39 +80,37 @@ module _ (c : Call) (w : ℕ) (b : List ℕ) (wide : w ≤ 8) where
           ∙ cells-at b (c .src) w j h wide
       step false e = absurd (eqb-false (c .kind) 1 e set)
 
-pub pass-kept : (c : Call) (f : ℕ) (b : List ℕ) (i : ℕ) → i < length b → Outside (c .dst) (c .count) i
-    → getD (passBytes (rowsFrom c f) b) i 0 ≡ getD b i 0
-pass-kept =
-    call-ind (λ c f. (b : List ℕ) (i : ℕ) → i < length b → Outside (c .dst) (c .count) i → getD (passBytes (rowsFrom c f) b) i 0 ≡ getD b i 0)
-    (λ c f none b i h out. ap (λ (l : List ℕ). getD l i 0) (no-bytes c f none b))
-    (λ c f some later b i h out.
-    let w = copyRowWidth c in
-    let within = width-within c some in
-    ap (λ (l : List ℕ). getD l i 0) (row-bytes c f some b)
-    ∙ later (turnBytes c w b) i (omega (arith, turn-bytes-length c w b)) (last-part w within out)
-    ∙ turn-kept c w b (width-eight c) i h (first-part w within out))
+module _ {n w : ℕ} {ws : List ℕ} (cut : CutInto n (w ∷ ws)) {a i : ℕ} (out : Outside a n i) where
+  here : Outside a w i
+  here = first-part w (first-within cut) out
 
-held-kept : (c : Call) (f : ℕ) (b d : List ℕ) (i : ℕ) → Outside (c .dst) (c .count) i
-    → getD (heldAllBytes (rowOps (rowsFrom c f) b) d) i 0 ≡ getD d i 0
-unfolding heldAllBytes
-held-kept =
-    call-ind
-    (λ c f. (b d : List ℕ) (i : ℕ) → Outside (c .dst) (c .count) i → getD (heldAllBytes (rowOps (rowsFrom c f) b) d) i 0 ≡ getD d i 0)
-    (λ c f none b d i out. ap (λ (os : List Op). getD (heldAllBytes os d) i 0) (no-ops c f none b))
-    (λ c f some later b d i out.
-    let w = copyRowWidth c in
-    let within = width-within c some in
-    let wide = width-eight c in
-    ap (λ (os : List Op). getD (heldAllBytes os d) i 0) (row-ops c f some b)
-    ∙ later (turnBytes c w b) (heldBytes (rowOp (rowOf c w f) b) d) i (last-part w within out)
-    ∙ write-kept d (c .dst) w (valueAt c w b) i (omega (arith, length-cells b (c .src) w)) (first-part w within out))
+  behind : Outside (a + w) (n - w) i
+  behind = last-part w (first-within cut) out
 
-pub deferred-kept : (c : Call) (b d : List ℕ) (i : ℕ) → Outside (c .dst) (c .count) i → getD (heldAllBytes (deferred c b) d) i 0 ≡ getD d i 0
+pub pass-kept : (ws : List ℕ) (c : Call) (f : ℕ) (b : List ℕ) (i : ℕ) → CutInto (c .count) ws → i < length b → Outside (c .dst) (c .count) i
+    → getD (passBytes (rowsBy c f ws) b) i 0 ≡ getD b i 0
+unfolding rowsBy passBytes
+pass-kept [] c f b i cut h out = refl
+pass-kept (w ∷ ws) c f b i cut h out =
+    pass-kept ws (rest c w) 0 (turnBytes c w b) i (rest-cut cut) (omega (arith, turn-bytes-length c w b)) (behind cut out)
+    ∙ turn-kept c w b (first-eight cut) i h (here cut out)
+
+held-kept : (ws : List ℕ) (c : Call) (f : ℕ) (b d : List ℕ) (i : ℕ) → CutInto (c .count) ws → Outside (c .dst) (c .count) i
+    → getD (heldAllBytes (rowOps (rowsBy c f ws) b) d) i 0 ≡ getD d i 0
+unfolding rowsBy rowOps heldAllBytes
+held-kept [] c f b d i cut out = refl
+held-kept (w ∷ ws) c f b d i cut out =
+    let wide = first-eight cut in
+    held-kept ws (rest c w) 0 (turnBytes c w b) (heldBytes (rowOp (rowWith c w f) b) d) i (rest-cut cut) (behind cut out)
+    ∙ write-kept d (c .dst) w (valueAt c w b) i (omega (arith, length-cells b (c .src) w)) (here cut out)
+
+pub deferred-kept : (ws : List ℕ) (c : Call) (b d : List ℕ) (i : ℕ) → CutInto (c .count) ws → Outside (c .dst) (c .count) i
+    → getD (heldAllBytes (deferredBy c ws b) d) i 0 ≡ getD d i 0
 unfolding heldAllBytes
-deferred-kept c b d i out = step (eqb (c .kind) 0)
+deferred-kept ws c b d i cut out = step (eqb (c .kind) 0)
   where
-    step : (t : Bool) → getD (heldAllBytes (cond t (rowOps (rowsOf c) b) []) d) i 0 ≡ getD d i 0
-    step true = held-kept c 1 b d i out
+    step : (t : Bool) → getD (heldAllBytes (cond t (rowOps (rowsBy c 1 ws) b) []) d) i 0 ≡ getD d i 0
+    step true = held-kept ws c 1 b d i cut out
     step false = refl
 
 -- Stamps
@@ -130,40 +128,27 @@ turn-stamps-kept c w s i source dest = stamp-kept _ (c .src) w (readStamp c) i s
     step true e n = stamp-kept s (c .dst) w n i (dest (eqb-true (c .kind) 1 e))
     step false e n = refl
 
-pub pass-stamps-kept : (c : Call) (f : ℕ) (s : List ℕ) (i : ℕ) → Outside (c .src) (c .count) i
-    → (c .kind ≡ 1 → Outside (c .dst) (c .count) i) → getD (passStamps (rowsFrom c f) s) i 0 ≡ getD s i 0
-pass-stamps-kept =
-    call-ind
-    (λ c f.
-    (s : List ℕ) (i : ℕ) → Outside (c .src) (c .count) i → (c .kind ≡ 1 → Outside (c .dst) (c .count) i)
-    → getD (passStamps (rowsFrom c f) s) i 0 ≡ getD s i 0)
-    (λ c f none s i source dest. ap (λ (l : List ℕ). getD l i 0) (no-stamps c f none s))
-    (λ c f some later s i source dest.
-    let w = copyRowWidth c in
-    let within = width-within c some in
-    ap (λ (l : List ℕ). getD l i 0) (row-stamps c f some s)
-    ∙ later (turnStamps c w s) i (last-part w within source) (λ set. last-part w within (dest set))
-    ∙ turn-stamps-kept c w s i (first-part w within source) (λ set. first-part w within (dest set)))
+pub pass-stamps-kept : (ws : List ℕ) (c : Call) (f : ℕ) (s : List ℕ) (i : ℕ) → CutInto (c .count) ws → Outside (c .src) (c .count) i
+    → (c .kind ≡ 1 → Outside (c .dst) (c .count) i) → getD (passStamps (rowsBy c f ws) s) i 0 ≡ getD s i 0
+unfolding rowsBy passStamps
+pass-stamps-kept [] c f s i cut source dest = refl
+pass-stamps-kept (w ∷ ws) c f s i cut source dest =
+    pass-stamps-kept ws (rest c w) 0 (turnStamps c w s) i (rest-cut cut) (behind cut source) (λ set. behind cut (dest set))
+    ∙ turn-stamps-kept c w s i (here cut source) (λ set. here cut (dest set))
 
-held-stamps-kept : (c : Call) (f : ℕ) (b s : List ℕ) (i : ℕ) → Outside (c .dst) (c .count) i
-    → getD (heldAllStamps (rowOps (rowsFrom c f) b) s) i 0 ≡ getD s i 0
-unfolding heldAllStamps
-held-stamps-kept =
-    call-ind
-    (λ c f. (b s : List ℕ) (i : ℕ) → Outside (c .dst) (c .count) i → getD (heldAllStamps (rowOps (rowsFrom c f) b) s) i 0 ≡ getD s i 0)
-    (λ c f none b s i out. ap (λ (os : List Op). getD (heldAllStamps os s) i 0) (no-ops c f none b))
-    (λ c f some later b s i out.
-    let w = copyRowWidth c in
-    let within = width-within c some in
-    ap (λ (os : List Op). getD (heldAllStamps os s) i 0) (row-ops c f some b)
-    ∙ later (turnBytes c w b) (heldStamps (rowOp (rowOf c w f) b) s) i (last-part w within out)
-    ∙ stamp-kept s (c .dst) w (writeStamp c) i (first-part w within out))
+held-stamps-kept : (ws : List ℕ) (c : Call) (f : ℕ) (b s : List ℕ) (i : ℕ) → CutInto (c .count) ws → Outside (c .dst) (c .count) i
+    → getD (heldAllStamps (rowOps (rowsBy c f ws) b) s) i 0 ≡ getD s i 0
+unfolding rowsBy rowOps heldAllStamps
+held-stamps-kept [] c f b s i cut out = refl
+held-stamps-kept (w ∷ ws) c f b s i cut out =
+    held-stamps-kept ws (rest c w) 0 (turnBytes c w b) (heldStamps (rowOp (rowWith c w f) b) s) i (rest-cut cut) (behind cut out)
+    ∙ stamp-kept s (c .dst) w (writeStamp c) i (here cut out)
 
-pub deferred-stamps-kept : (c : Call) (b s : List ℕ) (i : ℕ) → (c .kind ≡ 0 → Outside (c .dst) (c .count) i)
-    → getD (heldAllStamps (deferred c b) s) i 0 ≡ getD s i 0
+pub deferred-stamps-kept : (ws : List ℕ) (c : Call) (b s : List ℕ) (i : ℕ) → CutInto (c .count) ws
+    → (c .kind ≡ 0 → Outside (c .dst) (c .count) i) → getD (heldAllStamps (deferredBy c ws b) s) i 0 ≡ getD s i 0
 unfolding heldAllStamps
-deferred-stamps-kept c b s i out = step (eqb (c .kind) 0) refl
+deferred-stamps-kept ws c b s i cut out = step (eqb (c .kind) 0) refl
   where
-    step : (t : Bool) → eqb (c .kind) 0 ≡ t → getD (heldAllStamps (cond t (rowOps (rowsOf c) b) []) s) i 0 ≡ getD s i 0
-    step true e = held-stamps-kept c 1 b s i (out (eqb-true (c .kind) 0 e))
+    step : (t : Bool) → eqb (c .kind) 0 ≡ t → getD (heldAllStamps (cond t (rowOps (rowsBy c 1 ws) b) []) s) i 0 ≡ getD s i 0
+    step true e = held-stamps-kept ws c 1 b s i cut (out (eqb-true (c .kind) 0 e))
     step false e = refl

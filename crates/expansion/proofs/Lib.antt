@@ -3,7 +3,6 @@ pub mod Outcome
 pub mod Moved
 pub mod Cut
 pub mod CallBytes
-pub mod ByRow
 pub mod Kept
 pub mod Copied
 pub mod SetMoves

@@ -1,15 +1,14 @@
 -- What a try comes to: it is refused and the slices are kept, or it is taken, with all that this means. Assumes nothing.
 use mathlib.Core.Path.{_≡_, refl, sym, ap, _∙_}
 use mathlib.Core.Logic.{_⊎_, inl, inr}
-use mathlib.Core.Bool.{Bool, true, false, cond}
-use mathlib.Core.List.{List, [], _∷_, flatMap}
+use mathlib.Core.Bool.{Bool, true, false}
+use mathlib.Core.List.{[], _∷_, flatMap}
 use Prim.Native.Nat.{ℕ, _*_, _≤_}
 use native.Mathlib.Omega.{arith}
 use denote.Enum.Declared.{tagOf}
 use types.Run.{OneOf, miss}
 use borrow.Author.Tests.{eqb-true}
 use lib.Dec.{eqb}
-use lib.ListN.{length}
 use Rattle.answer.specs.Numbers.{accepted}
 use Rattle.answer.specs.declared.Answer.{Answer}
 use Rattle.answer.proofs.Refusals.{value-of}
@@ -18,14 +17,15 @@ use Rattle.call.specs.Calls.{Call}
 use Rattle.call.specs.Ops.{opRecord, OP-WIDTH}
 use Rattle.access.specs.Access.{accessRecord}
 use Rattle.window.specs.Window.{windowOf}
-use Rattle.expansion_rows.specs.Rows.{rowsOf}
+use Rattle.expansion_rows.specs.Rows.{widthsOf, rowsOf}
 use Rattle.expansion_rows.specs.Turns.{passBytes, passStamps}
 use Rattle.expansion_rows.proofs.Lengths.{pass-bytes-length, pass-stamps-length, held-bytes-length, held-stamps-length}
 use Rattle.expansion.specs.Tries.{Setting, Lent, Lengths, lengthsAre, lengths, Try}
 use Rattle.expansion.specs.Refusals.{opCount, refusals, answerBy, answered, withAccesses, ExpansionNumbers, expansionNumbers}
-use Rattle.expansion.specs.Expansion.{callOps, deferred, callBytes, callStamps, callAccesses, expanded, lentAfter}
+use Rattle.expansion.specs.Expansion.{deferredBy, bytesBy, stampsBy, callOps, callAccesses, expanded, lentAfter}
 use Rattle.expansion.specs.declared.ExpansionAnswer.{ExpansionAnswer}
-use Rattle.expansion.specs.declared.ExpansionAnswer.the-variants.{Expanded, GapTooLarge, BadWindow, LastStamp, NotGapApart, PastIndex, OutsideWindow, BufferShort}
+use Rattle.expansion.specs.declared.ExpansionAnswer.the-variants.{Expanded, GapTooLarge, BadWindow, LastStamp, NotGapApart, PastIndex}
+use Rattle.expansion.specs.declared.ExpansionAnswer.the-variants.{OutsideWindow, BufferShort}
 use Rattle.expansion.proofs.ExpansionAnswer.{the-type}
 use Rattle.expansion.proofs.Judged.{Fair, Room, accepted-fair, fair-accepted}
 
@@ -77,10 +77,10 @@ answer-room s c n = go (eqb (answerBy s c n .number) 0) refl
 -- The lengths of the slices never change
 
 expanded-lengths : (c : Call) (l : Lent) → lengths (expanded c l) ≡ lengths l
-unfolding expanded callBytes callStamps
+unfolding expanded bytesBy stampsBy
 expanded-lengths c l =
-    let bytes = held-bytes-length (deferred c (l .bytes)) (passBytes (rowsOf c) (l .bytes)) ∙ pass-bytes-length (rowsOf c) (l .bytes) in
-    let stamps = held-stamps-length (deferred c (l .bytes)) (passStamps (rowsOf c) (l .stamps)) ∙ pass-stamps-length (rowsOf c) (l .stamps) in
+    let bytes = held-bytes-length (deferredBy c (widthsOf c) (l .bytes)) (passBytes (rowsOf c) (l .bytes)) ∙ pass-bytes-length (rowsOf c) (l .bytes) in
+    let stamps = held-stamps-length (deferredBy c (widthsOf c) (l .bytes)) (passStamps (rowsOf c) (l .stamps)) ∙ pass-stamps-length (rowsOf c) (l .stamps) in
     let records = length-store (l .ops) 0 (flatMap opRecord (callOps c (l .bytes))) in
     let accesses = length-store (l .accesses) 0 (flatMap accessRecord (callAccesses c (windowOf (l .bytes) (l .stamps)))) in
     λ i. lengthsAre (bytes i) (stamps i) (records i) (accesses i)

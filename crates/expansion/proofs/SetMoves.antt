@@ -1,9 +1,9 @@
--- The bytes that a Set moves. Before the row that starts at byte r, a cell behind src + r holds what an earlier row has moved there, if
+-- The bytes that a Set moves, however it is cut. Before the row that starts at byte r, a cell behind src + r holds what an earlier row has moved there, if
 -- one has, and else what it held before the call; a row that reads such cells moves them on by the gap. Assumes nothing.
 use mathlib.Core.Path.{_≡_, refl, sym, ap, _∙_, subst}
 use mathlib.Core.Logic.{inl, inr}
 use mathlib.Core.Bool.{Bool, true, false, cond, _&&_}
-use mathlib.Core.List.{List, [], _++_, flatMap, append-assoc}
+use mathlib.Core.List.{List, [], _∷_, _++_, flatMap, append-assoc}
 use Prim.Native.Nat.{ℕ, _+_, _-_, _≤_, _<_}
 use native.Mathlib.Nat.{zero-add}
 use native.Mathlib.Omega.{arith}
@@ -13,35 +13,29 @@ use lib.ListN.{length, take, getD, length-append, List·getD-append}
 use lib.Seq.{getD-append-add, getD-take, length-take-le}
 use Rattle.lists.proofs.Places.{Where, below, inside, above, where-is}
 use Rattle.call.specs.Calls.{Call, Op}
-use Rattle.call.specs.Cuts.{rest}
+use Rattle.call.specs.Cuts.{rest, CutInto}
+use Rattle.call.proofs.Cuts.{nothing-cut, first-eight, first-within, rest-cut}
 use Rattle.window.proofs.Window.{length-cells}
 use Rattle.window.proofs.SingleCells.{cells-at}
-use Rattle.expansion_rows.specs.Rows.{copyRowWidth, Row, rowsFrom, rowsOf}
+use Rattle.expansion_rows.specs.Rows.{Row, rowsBy}
 use Rattle.expansion_rows.specs.Turns.{valueAt, turnBytes, rowOps, passBytes}
-use Rattle.expansion_rows.proofs.Width.{width-eight, width-within}
-use Rattle.expansion_rows.proofs.RowList.{rows-next}
 use Rattle.expansion_rows.proofs.Lengths.{turn-bytes-length}
 use Rattle.expansion.specs.Consequences.{Outside, placeIn}
-use Rattle.expansion.proofs.ByRow.{call-ind, row-bytes, row-ops}
 use Rattle.expansion.proofs.Kept.{turn-kept, turn-dest, pass-kept}
 
 -- the bytes that rows move, joined
 abbrev moved : List Row → List ℕ → List ℕ
 moved rs b = flatMap (λ (o : Op). take (o .piece .width) (o .piece .value)) (rowOps rs b)
 
-abbrev run : Call → List ℕ → List ℕ
-run c b = take (copyRowWidth c) (valueAt c (copyRowWidth c) b)
+-- those of one row
+abbrev run : Call → ℕ → List ℕ → List ℕ
+run c w b = take w (valueAt c w b)
 
-run-length : (c : Call) (b : List ℕ) → length (run c b) ≡ copyRowWidth c
-run-length c b = length-take-le (copyRowWidth c) _ (omega (arith, width-eight c, length-cells b (c .src) (copyRowWidth c)))
+run-length : (c : Call) (w : ℕ) (b : List ℕ) → w ≤ 8 → length (run c w b) ≡ w
+run-length c w b wide = length-take-le w _ (omega (arith, length-cells b (c .src) w))
 
-run-at : (c : Call) (b : List ℕ) (j : ℕ) → j < copyRowWidth c → getD (run c b) j 0 ≡ getD b (c .src + j) 0
-run-at c b j h = getD-take (copyRowWidth c) _ j 0 h ∙ cells-at b (c .src) (copyRowWidth c) j h (width-eight c)
-
-moved-next : (c : Call) (f : ℕ) (b : List ℕ) → 0 < c .count
-    → moved (rowsFrom c f) b ≡ run c b ++ moved (rowsFrom (rest c (copyRowWidth c)) 0) (turnBytes c (copyRowWidth c) b)
-unfolding flatMap
-moved-next c f b some = ap (λ (os : List Op). flatMap (λ (o : Op). take (o .piece .width) (o .piece .value)) os) (row-ops c f some b)
+run-at : (c : Call) (w : ℕ) (b : List ℕ) (j : ℕ) → w ≤ 8 → j < w → getD (run c w b) j 0 ≡ getD b (c .src + j) 0
+run-at c w b j wide h = getD-take w _ j 0 h ∙ cells-at b (c .src) w j h wide
 
 -- Choices between what was moved and what stood there
 
@@ -83,76 +77,70 @@ abbrev Before : List ℕ → List ℕ → ℕ → ℕ → ℕ → List ℕ → T
 Before b₀ b g s r done = (y : ℕ) → r ≤ y → s + y < length b → getD b (s + y) 0 ≡ standing g r done y (getD b₀ (s + y) 0)
 
 module _
-    (c : Call) (b₀ b : List ℕ) (g s r : ℕ) (done : List ℕ) (set : c .kind ≡ 1) (some : 0 < c .count) (src : c .src ≡ s + r)
+    (c : Call) (w : ℕ) (b₀ b : List ℕ) (g s r : ℕ) (done : List ℕ) (set : c .kind ≡ 1) (wide : w ≤ 8) (src : c .src ≡ s + r)
     (apart : c .dst ≡ c .src + g) (long : length done ≡ r) (before : Before b₀ b g s r done) where
-  abbrev w : ℕ
-  w = copyRowWidth c
-
-  before-next : Before b₀ (turnBytes c w b) g s (r + w) (done ++ run c b)
+  before-next : Before b₀ (turnBytes c w b) g s (r + w) (done ++ run c w b)
   before-next y h fits = step (where-is (c .dst) w (s + y)) (leb g y) refl
     where
-      wide : w ≤ 8
-      wide = width-eight c
-
       fits-b : s + y < length b
       fits-b = omega (arith, turn-bytes-length c w b)
 
-      earlier : (n : ℕ) → n < r → getD (done ++ run c b) n 0 ≡ getD done n 0
-      earlier n l = List·getD-append done (run c b) 0 n (omega arith)
+      earlier : (n : ℕ) → n < r → getD (done ++ run c w b) n 0 ≡ getD done n 0
+      earlier n l = List·getD-append done (run c w b) 0 n (omega arith)
 
       kept : Outside (c .dst) w (s + y) → getD (turnBytes c w b) (s + y) 0 ≡ standing g r done y (getD b₀ (s + y) 0)
       kept out = turn-kept c w b wide (s + y) fits-b out ∙ before y (omega arith) fits-b
 
       step : Where (c .dst) w (s + y) → (t : Bool) → leb g y ≡ t
-          → getD (turnBytes c w b) (s + y) 0 ≡ standing g (r + w) (done ++ run c b) y (getD b₀ (s + y) 0)
+          → getD (turnBytes c w b) (s + y) 0 ≡ standing g (r + w) (done ++ run c w b) y (getD b₀ (s + y) 0)
       step (below l) true e =
           let up : g ≤ y = leb-true g y e in
           kept (inl l)
           ∙ standing-moved g r done y _ up (omega arith)
           ∙ sym (earlier (y - g) (omega arith))
-          ∙ sym (standing-moved g (r + w) (done ++ run c b) y _ up (omega arith))
+          ∙ sym (standing-moved g (r + w) (done ++ run c w b) y _ up (omega arith))
       step (below l) false e =
           let near : y < g = leb-false g y e in
-          kept (inl l) ∙ standing-near g r done y _ near ∙ sym (standing-near g (r + w) (done ++ run c b) y _ near)
+          kept (inl l) ∙ standing-near g r done y _ near ∙ sym (standing-near g (r + w) (done ++ run c w b) y _ near)
       step (above l) t e =
           let up : g ≤ y = omega arith in
           kept (inr l)
           ∙ standing-far g r done y _ up (omega arith)
-          ∙ sym (standing-far g (r + w) (done ++ run c b) y _ up (omega arith))
+          ∙ sym (standing-far g (r + w) (done ++ run c w b) y _ up (omega arith))
       step (inside j l q) t e =
           let up : g ≤ y = omega arith in
           let place : length done + j ≡ y - g = omega arith in
           ap (λ (n : ℕ). getD (turnBytes c w b) n 0) q
           ∙ turn-dest c w b wide set j l (omega (arith, fits-b)) (omega arith)
-          ∙ sym (run-at c b j l)
-          ∙ sym (getD-append-add done (run c b) j 0)
-          ∙ ap (λ (n : ℕ). getD (done ++ run c b) n 0) place
-          ∙ sym (standing-moved g (r + w) (done ++ run c b) y _ up (omega arith))
+          ∙ sym (run-at c w b j wide l)
+          ∙ sym (getD-append-add done (run c w b) j 0)
+          ∙ ap (λ (n : ℕ). getD (done ++ run c w b) n 0) place
+          ∙ sym (standing-moved g (r + w) (done ++ run c w b) y _ up (omega arith))
 
   -- byte x of the row at r, all that is moved being `done`, the row and `more`
-  row-byte : (more : List ℕ) (x : ℕ) → x < w → s + (r + x) < length b → Says b₀ g s (done ++ (run c b ++ more)) (r + x) x
+  row-byte : (more : List ℕ) (x : ℕ) → x < w → s + (r + x) < length b → Says b₀ g s (done ++ (run c w b ++ more)) (r + x) x
   row-byte more x h fits = here ∙ step (leb g (r + x)) (ltb x g) refl refl
     where
-      here : getD (done ++ (run c b ++ more)) (r + x) 0 ≡ standing g r done (r + x) (getD b₀ (s + (r + x)) 0)
+      here : getD (done ++ (run c w b ++ more)) (r + x) 0 ≡ standing g r done (r + x) (getD b₀ (s + (r + x)) 0)
       here =
           let e : r + x ≡ length done + x = omega arith in
           let q : c .src + x ≡ s + (r + x) = omega arith in
-          ap (λ (n : ℕ). getD (done ++ (run c b ++ more)) n 0) e
-          ∙ getD-append-add done (run c b ++ more) x 0
-          ∙ List·getD-append (run c b) more 0 x (omega (arith, run-length c b))
-          ∙ run-at c b x h
+          ap (λ (n : ℕ). getD (done ++ (run c w b ++ more)) n 0) e
+          ∙ getD-append-add done (run c w b ++ more) x 0
+          ∙ List·getD-append (run c w b) more 0 x (omega (arith, run-length c w b wide))
+          ∙ run-at c w b x wide h
           ∙ ap (λ (n : ℕ). getD b n 0) q
           ∙ before (r + x) (omega arith) fits
 
       step : (t u : Bool) → leb g (r + x) ≡ t → ltb x g ≡ u
           → standing g r done (r + x) (getD b₀ (s + (r + x)) 0)
-          ≡ cond (leb g (r + x) && ltb x g) (getD (done ++ (run c b ++ more)) (r + x - g) 0) (getD b₀ (s + (r + x)) 0)
+          ≡ cond (leb g (r + x) && ltb x g) (getD (done ++ (run c w b ++ more)) (r + x - g) 0) (getD b₀ (s + (r + x)) 0)
       step false u e f = standing-near g r done (r + x) _ (leb-false g (r + x) e) ∙ rw e
       step true true e f =
           let up : g ≤ r + x = leb-true g (r + x) e in
           let l : x < g = ltb-true x g f in
           standing-moved g r done (r + x) _ up (omega arith)
-          ∙ sym (List·getD-append done (run c b ++ more) 0 (r + x - g) (omega arith))
+          ∙ sym (List·getD-append done (run c w b ++ more) 0 (r + x - g) (omega arith))
           ∙ rw (e, f)
       step true false e f =
           let up : g ≤ r + x = leb-true g (r + x) e in
@@ -161,42 +149,34 @@ module _
 
 -- Row by row
 
-pub moves-from : (c : Call) (f : ℕ) (b₀ b : List ℕ) (g s r : ℕ) (done : List ℕ) → c .kind ≡ 1 → c .src ≡ s + r → c .dst ≡ c .src + g
-    → length done ≡ r → (0 < c .count → c .dst + c .count ≤ length b) → Before b₀ b g s r done → (x : ℕ) → x < c .count
-    → Says b₀ g s (done ++ moved (rowsFrom c f) b) (r + x) (placeIn (rowsFrom c f) x)
-moves-from =
-    call-ind
-    (λ c f.
-    (b₀ b : List ℕ) (g s r : ℕ) (done : List ℕ) → c .kind ≡ 1 → c .src ≡ s + r → c .dst ≡ c .src + g → length done ≡ r
-    → (0 < c .count → c .dst + c .count ≤ length b) → Before b₀ b g s r done → (x : ℕ) → x < c .count
-    → Says b₀ g s (done ++ moved (rowsFrom c f) b) (r + x) (placeIn (rowsFrom c f) x))
-    (λ c f none b₀ b g s r done set src apart long fits before x h. absurd (omega arith))
-    (λ c f some later b₀ b g s r done set src apart long fits before x h.
-    let w = copyRowWidth c in
-    let within : w ≤ c .count = width-within c some in
+pub moves-from : (ws : List ℕ) (c : Call) (f : ℕ) (b₀ b : List ℕ) (g s r : ℕ) (done : List ℕ) → CutInto (c .count) ws → c .kind ≡ 1
+    → c .src ≡ s + r → c .dst ≡ c .src + g → length done ≡ r → (0 < c .count → c .dst + c .count ≤ length b) → Before b₀ b g s r done
+    → (x : ℕ) → x < c .count → Says b₀ g s (done ++ moved (rowsBy c f ws) b) (r + x) (placeIn ws x)
+unfolding rowsBy rowOps flatMap
+moves-from [] c f b₀ b g s r done cut set src apart long fits before x h = absurd (omega (arith, nothing-cut cut))
+moves-from (w ∷ ws) c f b₀ b g s r done cut set src apart long fits before x h =
+    let within : w ≤ c .count = first-within cut in
+    let wide : w ≤ 8 = first-eight cut in
     let b₁ = turnBytes c w b in
-    let left = rowsFrom (rest c w) 0 in
-    let more = moved left b₁ in
-    let room = fits some in
-    let all : done ++ (run c b ++ more) ≡ done ++ moved (rowsFrom c f) b = ap (λ (l : List ℕ). done ++ l) (sym (moved-next c f b some)) in
-    let place : placeIn (rowsFrom c f) x ≡ cond (ltb x w) x (placeIn left (x - w)) =
-    ap (λ (rs : List Row). placeIn rs x) (rows-next c w f refl some) in
-    let next = before-next c b₀ b g s r done set some src apart long before in
-    let long₁ : length (done ++ run c b) ≡ r + w = length-append done (run c b) ∙ omega (arith, run-length c b) in
-    let here : x < w → Says b₀ g s (done ++ (run c b ++ more)) (r + x) x =
-    λ l. row-byte c b₀ b g s r done set some src apart long before more x l (omega arith) in
-    let there : w ≤ x → Says b₀ g s ((done ++ run c b) ++ more) (r + w + (x - w)) (placeIn left (x - w)) =
-    λ l. later b₀ b₁ g s (r + w) (done ++ run c b) set (omega arith) (omega arith) long₁ (λ q. omega (arith, turn-bytes-length c w b)) next (x - w) (omega arith) in
-    subst (λ (l : List ℕ). Says b₀ g s l (r + x) (placeIn (rowsFrom c f) x)) all
-    (subst (λ (p : ℕ). Says b₀ g s (done ++ (run c b ++ more)) (r + x) p) (sym place)
-    (by-row b₀ g s done (run c b) more r w x (placeIn left (x - w)) (ltb x w) refl here there)))
+    let more = moved (rowsBy (rest c w) 0 ws) b₁ in
+    let room = fits (omega arith) in
+    let next = before-next c w b₀ b g s r done set wide src apart long before in
+    let long₁ : length (done ++ run c w b) ≡ r + w = length-append done (run c w b) ∙ omega (arith, run-length c w b wide) in
+    let here : x < w → Says b₀ g s (done ++ (run c w b ++ more)) (r + x) x =
+    λ l. row-byte c w b₀ b g s r done set wide src apart long before more x l (omega arith) in
+    let there : w ≤ x → Says b₀ g s ((done ++ run c w b) ++ more) (r + w + (x - w)) (placeIn ws (x - w)) =
+    λ l.
+    moves-from ws (rest c w) 0 b₀ b₁ g s (r + w) (done ++ run c w b) (rest-cut cut) set (omega arith) (omega arith) long₁
+    (λ q. omega (arith, turn-bytes-length c w b)) next (x - w) (omega arith) in
+    by-row b₀ g s done (run c w b) more r w x (placeIn ws (x - w)) (ltb x w) refl here there
 
 -- from the first row on
-pub moves-all : (c : Call) (b : List ℕ) (g : ℕ) → c .kind ≡ 1 → c .dst ≡ c .src + g → (0 < c .count → c .dst + c .count ≤ length b)
-    → (x : ℕ) → x < c .count → Says b g (c .src) (moved (rowsOf c) b) x (placeIn (rowsOf c) x)
-moves-all c b g set apart fits x h =
-    subst (λ (n : ℕ). Says b g (c .src) (moved (rowsOf c) b) n (placeIn (rowsOf c) x)) (zero-add x)
-    (moves-from c 1 b b g (c .src) 0 [] set (omega arith) apart refl fits start x h)
+pub moves-all : (ws : List ℕ) (c : Call) (b : List ℕ) (g : ℕ) → CutInto (c .count) ws → c .kind ≡ 1 → c .dst ≡ c .src + g
+    → (0 < c .count → c .dst + c .count ≤ length b)
+    → (x : ℕ) → x < c .count → Says b g (c .src) (moved (rowsBy c 1 ws) b) x (placeIn ws x)
+moves-all ws c b g cut set apart fits x h =
+    subst (λ (n : ℕ). Says b g (c .src) (moved (rowsBy c 1 ws) b) n (placeIn ws x)) (zero-add x)
+    (moves-from ws c 1 b b g (c .src) 0 [] cut set (omega arith) apart refl fits start x h)
   where
     start : Before b b g (c .src) 0 []
     start y up fits = step (leb g y) refl
@@ -207,35 +187,29 @@ moves-all c b g set apart fits x h =
 
 -- Gaps of 8 and more: no row reaches back over the gap
 
-pub fills : (c : Call) (f : ℕ) (b : List ℕ) (g : ℕ) → c .kind ≡ 1 → c .dst ≡ c .src + g → 8 ≤ g
+pub fills : (ws : List ℕ) (c : Call) (f : ℕ) (b : List ℕ) (g : ℕ) → CutInto (c .count) ws → c .kind ≡ 1 → c .dst ≡ c .src + g → 8 ≤ g
     → (0 < c .count → c .dst + c .count ≤ length b) → (x : ℕ) → x < c .count
-    → getD (passBytes (rowsFrom c f) b) (c .dst + x) 0 ≡ getD (passBytes (rowsFrom c f) b) (c .src + x) 0
-fills =
-    call-ind
-    (λ c f.
-    (b : List ℕ) (g : ℕ) → c .kind ≡ 1 → c .dst ≡ c .src + g → 8 ≤ g → (0 < c .count → c .dst + c .count ≤ length b)
-    → (x : ℕ) → x < c .count → getD (passBytes (rowsFrom c f) b) (c .dst + x) 0 ≡ getD (passBytes (rowsFrom c f) b) (c .src + x) 0)
-    (λ c f none b g set apart wide fits x h. absurd (omega arith))
-    (λ c f some later b g set apart wide fits x h.
-    let w = copyRowWidth c in
-    let within : w ≤ c .count = width-within c some in
-    let eight : w ≤ 8 = width-eight c in
-    let room = fits some in
+    → getD (passBytes (rowsBy c f ws) b) (c .dst + x) 0 ≡ getD (passBytes (rowsBy c f ws) b) (c .src + x) 0
+unfolding rowsBy passBytes
+fills [] c f b g cut set apart far fits x h = absurd (omega (arith, nothing-cut cut))
+fills (w ∷ ws) c f b g cut set apart far fits x h =
+    let within : w ≤ c .count = first-within cut in
+    let wide : w ≤ 8 = first-eight cut in
+    let room = fits (omega arith) in
     let b₁ = turnBytes c w b in
     let same : length b₁ ≡ length b = turn-bytes-length c w b in
-    let after = passBytes (rowsFrom (rest c w) 0) b₁ in
+    let after = passBytes (rowsBy (rest c w) 0 ws) b₁ in
     let kept : (i : ℕ) → i < c .dst + w → i < length b → getD after i 0 ≡ getD b₁ i 0 =
-    λ i l m. pass-kept (rest c w) 0 b₁ i (omega arith) (inl l) in
+    λ i l m. pass-kept ws (rest c w) 0 b₁ i (rest-cut cut) (omega arith) (inl l) in
     let here : x < w → getD after (c .dst + x) 0 ≡ getD after (c .src + x) 0 =
     λ l.
     kept (c .dst + x) (omega arith) (omega arith)
-    ∙ turn-dest c w b eight set x l (omega arith) (omega arith)
-    ∙ sym (turn-kept c w b eight (c .src + x) (omega arith) (inl (omega arith)))
+    ∙ turn-dest c w b wide set x l (omega arith) (omega arith)
+    ∙ sym (turn-kept c w b wide (c .src + x) (omega arith) (inl (omega arith)))
     ∙ sym (kept (c .src + x) (omega arith) (omega arith)) in
     let there : w ≤ x → getD after (c .dst + w + (x - w)) 0 ≡ getD after (c .src + w + (x - w)) 0 =
-    λ l. later b₁ g set (omega arith) wide (λ q. omega arith) (x - w) (omega arith) in
-    subst (λ (l : List ℕ). getD l (c .dst + x) 0 ≡ getD l (c .src + x) 0) (sym (row-bytes c f some b))
-    (split after (c .dst) (c .src) w x (ltb x w) refl here there))
+    λ l. fills ws (rest c w) 0 b₁ g (rest-cut cut) set (omega arith) far (λ q. omega arith) (x - w) (omega arith) in
+    split after (c .dst) (c .src) w x (ltb x w) refl here there
   where
     split : (l : List ℕ) (d s w x : ℕ) (t : Bool) → ltb x w ≡ t → (x < w → getD l (d + x) 0 ≡ getD l (s + x) 0)
         → (w ≤ x → getD l (d + w + (x - w)) 0 ≡ getD l (s + w + (x - w)) 0) → getD l (d + x) 0 ≡ getD l (s + x) 0

@@ -12,7 +12,7 @@ use Rattle.call.specs.Calls.{Call, Op}
 use Rattle.call.specs.Ops.{opRecord}
 use Rattle.access.specs.Access.{Access, accessRecord}
 use Rattle.window.specs.Window.{Window, windowOf}
-use Rattle.expansion_rows.specs.Rows.{rowsOf}
+use Rattle.expansion_rows.specs.Rows.{rowsBy, widthsOf}
 use Rattle.expansion_rows.specs.Turns.{rowOps, passBytes, passStamps, passAccesses}
 use Rattle.expansion_rows.specs.Held.{heldAllBytes, heldAllStamps, heldAccesses}
 use Rattle.expansion.specs.Tries.{Setting, Lent, lent, Try}
@@ -26,25 +26,41 @@ abbrev pub orEmpty : Call → List Op → List Op
 orEmpty c [] = emptyOp c ∷ []
 orEmpty c (o ∷ os) = o ∷ os
 
--- the operation records of a call: those of its rows, and one if there is none
-unfoldable pub callOps : Call → List ℕ → List Op
-callOps c bytes = orEmpty c (rowOps (rowsOf c) bytes)
+-- A call that is cut into rows of the widths ws
+
+-- its operation records: those of its rows, and one if there is none
+unfoldable pub opsBy : Call → List ℕ → List ℕ → List Op
+opsBy c ws bytes = orEmpty c (rowOps (rowsBy c 1 ws) bytes)
 
 -- the deferred writes: a Copy's
-abbrev pub deferred : Call → List ℕ → List Op
-deferred c bytes = cond (eqb (c .kind) 0) (rowOps (rowsOf c) bytes) []
+abbrev pub deferredBy : Call → List ℕ → List ℕ → List Op
+deferredBy c ws bytes = cond (eqb (c .kind) 0) (rowOps (rowsBy c 1 ws) bytes) []
 
 -- bytes, stamps and accesses: those of the rows' turns, and then of the deferred writes
-unfoldable pub callBytes : Call → List ℕ → List ℕ
-callBytes c bytes = heldAllBytes (deferred c bytes) (passBytes (rowsOf c) bytes)
+unfoldable pub bytesBy : Call → List ℕ → List ℕ → List ℕ
+bytesBy c ws bytes = heldAllBytes (deferredBy c ws bytes) (passBytes (rowsBy c 1 ws) bytes)
 
-unfoldable pub callStamps : Call → Window → List ℕ
-callStamps c m = heldAllStamps (deferred c (m .bytes)) (passStamps (rowsOf c) (m .stamps))
+unfoldable pub stampsBy : Call → List ℕ → Window → List ℕ
+stampsBy c ws m = heldAllStamps (deferredBy c ws (m .bytes)) (passStamps (rowsBy c 1 ws) (m .stamps))
 
-unfoldable pub callAccesses : Call → Window → List Access
-callAccesses c m =
-    passAccesses (rowsOf c) m
-    ++ heldAccesses (deferred c (m .bytes)) (windowOf (passBytes (rowsOf c) (m .bytes)) (passStamps (rowsOf c) (m .stamps)))
+unfoldable pub accessesBy : Call → List ℕ → Window → List Access
+accessesBy c ws m =
+    passAccesses (rowsBy c 1 ws) m
+    ++ heldAccesses (deferredBy c ws (m .bytes)) (windowOf (passBytes (rowsBy c 1 ws) (m .bytes)) (passStamps (rowsBy c 1 ws) (m .stamps)))
+
+-- and these of the widths that the rule gives: the expansion
+
+abbrev pub callOps : Call → List ℕ → List Op
+callOps c bytes = opsBy c (widthsOf c) bytes
+
+abbrev pub callBytes : Call → List ℕ → List ℕ
+callBytes c bytes = bytesBy c (widthsOf c) bytes
+
+abbrev pub callStamps : Call → Window → List ℕ
+callStamps c m = stampsBy c (widthsOf c) m
+
+abbrev pub callAccesses : Call → Window → List Access
+callAccesses c m = accessesBy c (widthsOf c) m
 
 -- after a call that is accepted: the window as the call leaves it, and its records in the buffers. Numbers past them keep their values
 unfoldable pub expanded : Call → Lent → Lent

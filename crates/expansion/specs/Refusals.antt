@@ -11,18 +11,19 @@ use Rattle.answer.specs.declared.Answer.{Answer}
 use Rattle.call.specs.Calls.{Call}
 use Rattle.call.specs.Ops.{OP-WIDTH}
 use Rattle.access.specs.Access.{ACCESS-WIDTH}
-use Rattle.expansion_rows.specs.Rows.{rowsOf}
+use Rattle.expansion_rows.specs.Rows.{widthsOf}
 use Rattle.expansion.specs.Tries.{Setting, Lengths, Try, lengths}
 use Rattle.expansion.specs.declared.ExpansionAnswer.{ExpansionAnswer}
-use Rattle.expansion.specs.declared.ExpansionAnswer.the-variants.{Expanded, GapTooLarge, BadWindow, LastStamp, NotGapApart, PastIndex, OutsideWindow, BufferShort}
+use Rattle.expansion.specs.declared.ExpansionAnswer.the-variants.{Expanded, GapTooLarge, BadWindow, LastStamp, NotGapApart, PastIndex}
+use Rattle.expansion.specs.declared.ExpansionAnswer.the-variants.{OutsideWindow, BufferShort}
 
 -- how many operation records a call has: one for each row, and one for an empty call
 abbrev pub opCount : Call → ℕ
-opCount c = cond (eqb (c .count) 0) 1 (length (rowsOf c))
+opCount c = cond (eqb (c .count) 0) 1 (length (widthsOf c))
 
 -- how many accesses: a read for each row, and a write unless it is a Write
 abbrev pub accessCount : Call → ℕ
-accessCount c = cond (eqb (c .kind) 2) (length (rowsOf c)) (2 * length (rowsOf c))
+accessCount c = cond (eqb (c .kind) 2) (length (widthsOf c)) (2 * length (widthsOf c))
 
 -- The tests, in document 01's words
 

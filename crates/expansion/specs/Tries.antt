@@ -2,10 +2,10 @@
 use Prim.Native.Nat.{ℕ}
 use mathlib.Core.List.{List}
 use lib.ListN.{length}
+use Rattle.words.specs.Words.{Bytes}
 use Rattle.records.specs.Records.{LIMIT}
 use Rattle.call.specs.Calls.{Call}
 use Rattle.call.specs.Cuts.{Words}
-use Rattle.expansion_rows.specs.Inside.{Bytes}
 
 -- how many cells a window may have, and the gap
 pub record Setting : Type 0 where

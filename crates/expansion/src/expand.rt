@@ -38,8 +38,11 @@ fn copy_call(
     ops: &mut [u64],
     accesses: &mut [u64],
 )
-    requires { ⌜ (call .kind ≡ 0) × (0 < call .count) × CallInside (callOf call) (length (now bytes)) × (length (now stamps) ≡ length (now bytes)) × (rows ≡ opCount (callOf call)) × (OP-WIDTH * opCount (callOf call) ≤ length (now ops)) × (ACCESS-WIDTH * accessCount (callOf call) ≤ length (now accesses)) ⌝ }
-    ensures { λ _. ⌜ lent (now (bytes .exit)) (now (stamps .exit)) (now (ops .exit)) (now (accesses .exit)) ≡ expanded (callOf call) (lent (now (bytes .entry)) (now (stamps .entry)) (now (ops .entry)) (now (accesses .entry))) ⌝ }
+    requires { ⌜ (call .kind ≡ 0) × (0 < call .count) × CallInside (callOf call) (length (now bytes))
+        × (length (now stamps) ≡ length (now bytes)) × (rows ≡ opCount (callOf call)) × (OP-WIDTH * opCount (callOf call) ≤ length (now ops))
+        × (ACCESS-WIDTH * accessCount (callOf call) ≤ length (now accesses)) ⌝ }
+    ensures { λ _. ⌜ lent (now (bytes .exit)) (now (stamps .exit)) (now (ops .exit)) (now (accesses .exit))
+        ≡ expanded (callOf call) (lent (now (bytes .entry)) (now (stamps .entry)) (now (ops .entry)) (now (accesses .entry))) ⌝ }
 {
     read_pass(call, bytes, stamps, ops, accesses);
     let later = call.timestamp + 1;
@@ -55,8 +58,11 @@ fn move_call(
     ops: &mut [u64],
     accesses: &mut [u64],
 )
-    requires { ⌜ (0 < call .count → CallInside (callOf call) (length (now bytes))) × (length (now stamps) ≡ length (now bytes)) × (rows ≡ opCount (callOf call)) × (OP-WIDTH * opCount (callOf call) ≤ length (now ops)) × (ACCESS-WIDTH * accessCount (callOf call) ≤ length (now accesses)) ⌝ }
-    ensures { λ _. ⌜ lent (now (bytes .exit)) (now (stamps .exit)) (now (ops .exit)) (now (accesses .exit)) ≡ expanded (callOf call) (lent (now (bytes .entry)) (now (stamps .entry)) (now (ops .entry)) (now (accesses .entry))) ⌝ }
+    requires { ⌜ (0 < call .count → CallInside (callOf call) (length (now bytes)))
+        × (length (now stamps) ≡ length (now bytes)) × (rows ≡ opCount (callOf call)) × (OP-WIDTH * opCount (callOf call) ≤ length (now ops))
+        × (ACCESS-WIDTH * accessCount (callOf call) ≤ length (now accesses)) ⌝ }
+    ensures { λ _. ⌜ lent (now (bytes .exit)) (now (stamps .exit)) (now (ops .exit)) (now (accesses .exit))
+        ≡ expanded (callOf call) (lent (now (bytes .entry)) (now (stamps .entry)) (now (ops .entry)) (now (accesses .entry))) ⌝ }
 {
     if call.count == 0 {
         write_empty(call, ops);
@@ -80,7 +86,9 @@ pub fn expand(
     accesses: &mut [u64],
 ) -> ExpansionAnswer
     requires { ⌜ limit ≤ 2 ^ 20 ⌝ }
-    ensures { λ r. ⌜ Done (setting limit gap) (tryOf (callOf call) (lent (now (bytes .entry)) (now (stamps .entry)) (now (ops .entry)) (now (accesses .entry)))) (expansionNumbers r) (lent (now (bytes .exit)) (now (stamps .exit)) (now (ops .exit)) (now (accesses .exit))) ⌝ }
+    ensures { λ r. ⌜ Done (setting limit gap)
+        (tryOf (callOf call) (lent (now (bytes .entry)) (now (stamps .entry)) (now (ops .entry)) (now (accesses .entry))))
+        (expansionNumbers r) (lent (now (bytes .exit)) (now (stamps .exit)) (now (ops .exit)) (now (accesses .exit))) ⌝ }
 {
     let answer = expansion_answer(
         limit,

@@ -5,7 +5,7 @@ ghost use Prim.Native.Nat.{_+_, _-_, _*_, _^_, _≤_, _<_};
 ghost use lib.Dec.{ltb};
 ghost use lib.ListN.{length};
 ghost use Rattle.call.specs.Calls.{callOf};
-ghost use Rattle.expansion_rows.specs.Rows.{rowsOf};
+ghost use Rattle.expansion_rows.specs.Rows.{widthsOf};
 ghost use Rattle.expansion.specs.Tries.{setting, lengthsAre};
 ghost use Rattle.expansion.specs.Refusals.{opCount, accessCount, notGapApart, pastIndex, outsideWindow, answerBy, withAccesses, expansionNumbers};
 use crate::ExpansionAnswer;
@@ -65,7 +65,7 @@ fn outside(call: CopyCall, cells: u64) -> bool
 
 // How many operation records a call of `rows` rows has, and how many accesses.
 fn op_count(call: CopyCall, rows: usize) -> usize
-    requires { ⌜ rows ≡ length (rowsOf (callOf call)) ⌝ }
+    requires { ⌜ rows ≡ length (widthsOf (callOf call)) ⌝ }
     ensures { λ r. ⌜ r ≡ opCount (callOf call) ⌝ }
     ensures { λ r. ⌜ r ≤ rows + 1 ⌝ }
 {
@@ -73,7 +73,7 @@ fn op_count(call: CopyCall, rows: usize) -> usize
 }
 
 fn access_count(call: CopyCall, rows: usize) -> usize
-    requires { ⌜ (rows ≡ length (rowsOf (callOf call))) × (rows < 2 ^ 32) ⌝ }
+    requires { ⌜ (rows ≡ length (widthsOf (callOf call))) × (rows < 2 ^ 32) ⌝ }
     ensures { λ r. ⌜ r ≡ accessCount (callOf call) ⌝ }
     ensures { λ r. ⌜ r ≤ 2 * rows ⌝ }
 {
@@ -91,7 +91,8 @@ pub fn expansion_answer(
     accesses_room: usize,
 ) -> ExpansionAnswer
     requires { ⌜ limit ≤ 2 ^ 20 ⌝ }
-    ensures { λ r. ⌜ expansionNumbers r ≡ withAccesses (callOf call) (answerBy (setting limit gap) (callOf call) (lengthsAre cells stamped «ops_room» «accesses_room»)) ⌝ }
+    ensures { λ r. ⌜ expansionNumbers r
+        ≡ withAccesses (callOf call) (answerBy (setting limit gap) (callOf call) (lengthsAre cells stamped «ops_room» «accesses_room»)) ⌝ }
 {
     if 0x1_0000_0000 <= gap {
         return ExpansionAnswer::GapTooLarge;

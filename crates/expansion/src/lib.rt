@@ -80,7 +80,9 @@ pub fn collect_copy_ops(
     ops: &mut [u64],
     accesses: &mut [u64],
 ) -> ExpansionAnswer
-    ensures { λ r. ⌜ Done (under gap) (tryOf (callWith kind timestamp src dst count) (lent (now (bytes .entry)) (now (stamps .entry)) (now (ops .entry)) (now (accesses .entry)))) (expansionNumbers r) (lent (now (bytes .exit)) (now (stamps .exit)) (now (ops .exit)) (now (accesses .exit))) ⌝ }
+    ensures { λ r. ⌜ Done (under gap)
+        (tryOf (callWith kind timestamp src dst count) (lent (now (bytes .entry)) (now (stamps .entry)) (now (ops .entry)) (now (accesses .entry))))
+        (expansionNumbers r) (lent (now (bytes .exit)) (now (stamps .exit)) (now (ops .exit)) (now (accesses .exit))) ⌝ }
 {
     let call = CopyCall {
         kind: kind_number(kind),

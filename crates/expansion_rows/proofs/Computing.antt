@@ -2,11 +2,11 @@
 -- Assumes nothing.
 use Rattle.call.proofs.Computing as call
 use Rattle.window.proofs.Computing as window
-use Rattle.expansion_rows.specs.Rows.{copyRowWidth, rowsWithin, rowsFrom}
+use Rattle.expansion_rows.specs.Rows.{rowsBy, copyRowWidth, widthsWithin, widthsOf}
 use Rattle.expansion_rows.specs.Turns.{turnBytes, turnStamps, turnAccesses, rowOps, passBytes, passStamps, passAccesses}
-use Rattle.expansion_rows.specs.Held.{heldAllBytes, heldAllStamps, heldAccesses, opsFrom}
+use Rattle.expansion_rows.specs.Held.{heldAllBytes, heldAllStamps, heldAccesses}
 
 unfoldable pub computing : Unit {0}
-unfolding call.computing window.computing copyRowWidth rowsWithin rowsFrom turnBytes turnStamps turnAccesses rowOps passBytes passStamps
-    passAccesses heldAllBytes heldAllStamps heldAccesses opsFrom
+unfolding call.computing window.computing rowsBy copyRowWidth widthsWithin widthsOf turnBytes turnStamps turnAccesses rowOps passBytes passStamps
+    passAccesses heldAllBytes heldAllStamps heldAccesses
 computing = tt

@@ -7,13 +7,14 @@ use native.Mathlib.Omega.{arith}
 use lib.ListN.{length, length-append}
 use Rattle.words.specs.Words.{bit}
 use Rattle.call.specs.Calls.{Call, Op}
+use Rattle.call.specs.Cuts.{rest}
 use Rattle.access.specs.Access.{Access}
 use Rattle.window.specs.Window.{Window, windowOf, writeBytes, writeStamps, readAccess, writeAccess}
 use Rattle.window.proofs.Window.{length-bytes, length-stamps}
-use Rattle.expansion_rows.specs.Rows.{copyRowWidth, Row, rowsFrom}
-use Rattle.expansion_rows.specs.Turns.{inverted, readStamp, writeStamp, valueAt, turnBytes, turnStamps, turnAccesses, rowOps, passBytes, passStamps, passAccesses}
+use Rattle.expansion_rows.specs.Rows.{Row, rowsBy}
+use Rattle.expansion_rows.specs.Turns.{inverted, readStamp, writeStamp, valueAt, turnBytes, turnStamps, turnAccesses}
+use Rattle.expansion_rows.specs.Turns.{rowOps, passBytes, passStamps, passAccesses}
 use Rattle.expansion_rows.specs.Held.{heldBytes, heldStamps, heldAllBytes, heldAllStamps, heldAccesses}
-use Rattle.expansion_rows.proofs.RowList.{rows-ind}
 
 -- One turn
 
@@ -82,20 +83,18 @@ held-accesses-length (o ∷ os) m =
 
 -- How many accesses the turns of a call's rows have
 
-pub pass-accesses-length : (c : Call) (f : ℕ) (m : Window)
-    → length (passAccesses (rowsFrom c f) m) ≡ cond (inverted c) (2 * length (rowsFrom c f)) (length (rowsFrom c f))
-unfolding passAccesses
-pass-accesses-length =
-    rows-ind (λ c f rs. (m : Window) → length (passAccesses rs m) ≡ cond (inverted c) (2 * length rs) (length rs))
-    (λ c f e m. none (inverted c))
-    (λ c f rs some later m.
-    length-append (turnAccesses c (copyRowWidth c) m) _
-    ∙ more (inverted c) (length rs) (turn-accesses-length c (copyRowWidth c) m) (later _))
+pub pass-accesses-length : (ws : List ℕ) (c : Call) (f : ℕ) (m : Window)
+    → length (passAccesses (rowsBy c f ws) m) ≡ cond (inverted c) (2 * length ws) (length ws)
+unfolding rowsBy passAccesses
+pass-accesses-length [] c f m = none (inverted c)
   where
     none : (b : Bool) → _≡_ {A = ℕ} 0 (cond b 0 0)
     none true = refl
     none false = refl
-
+pass-accesses-length (w ∷ ws) c f m =
+    length-append (turnAccesses c w m) _
+    ∙ more (inverted c) (length ws) (turn-accesses-length c w m) (pass-accesses-length ws (rest c w) 0 _)
+  where
     more : (b : Bool) (n : ℕ) {x y : ℕ} → x ≡ 1 + bit b → y ≡ cond b (2 * n) n → x + y ≡ cond b (2 * suc n) (suc n)
     more true n e q = omega arith
     more false n e q = omega arith

@@ -1,8 +1,10 @@
 pub mod Width
+pub mod Widths
 pub mod RowList
 pub mod Lengths
 pub mod OneTurn
 pub mod HeldOps
+pub mod RowsCut
 pub mod ReadLoop
 pub mod WriteLoop
 pub mod Computing

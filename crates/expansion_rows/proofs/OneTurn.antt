@@ -6,10 +6,10 @@ use native.Mathlib.Nat.{add-zero}
 use native.Mathlib.Omega.{arith}
 use lib.ListN.{length, take, drop, length-append}
 use borrow.Author.Tests.{eq-eqb, ne-eqb}
-use Rattle.lists.proofs.Store.{store-all, run-length, part-back, part-length, part-turn}
+use Rattle.lists.proofs.Store.{store-all, run-length, lentBack, part-back, part-length, part-turn}
 use Rattle.words.specs.Words.{bit}
 use Rattle.call.specs.Calls.{Call}
-use Rattle.access.specs.Access.{accessRecord}
+use Rattle.access.specs.Access.{ACCESS-WIDTH, accessRecord}
 use Rattle.window.specs.Window.{windowOf, writeBytes, writeStamps, readAccess, writeAccess, cellsAt, memoryAccess}
 use Rattle.window.proofs.Window.{write-same}
 use Rattle.expansion_rows.specs.Turns.{inverted, valueAt, turnBytes, turnStamps, turnAccesses}
@@ -53,10 +53,10 @@ module _ (c : Call) (w : ℕ) (b s : List ℕ) (other : c .kind ≡ 1 → ⊥) w
       (ap (λ (t : ℕ). accessRecord (readAccess (windowOf b s) (c .src) w t)) (sym (add-zero (c .stamp))) ∙ sym (append-nil _))
 
 -- the two cases of a turn's room
-pub set-room : (c : Call) {n : ℕ} → c .kind ≡ 1 → n ≡ 29 * (1 + bit (inverted c)) → n ≡ 58
+pub set-room : (c : Call) {n : ℕ} → c .kind ≡ 1 → n ≡ ACCESS-WIDTH * (1 + bit (inverted c)) → n ≡ ACCESS-WIDTH * 2
 set-room c set e = e ∙ rw (eq-eqb (c .kind) 1 set)
 
-pub read-room : (c : Call) {n : ℕ} → (c .kind ≡ 1 → ⊥) → n ≡ 29 * (1 + bit (inverted c)) → n ≡ 29
+pub read-room : (c : Call) {n : ℕ} → (c .kind ≡ 1 → ⊥) → n ≡ ACCESS-WIDTH * (1 + bit (inverted c)) → n ≡ ACCESS-WIDTH
 read-room c other e = e ∙ rw (ne-eqb (c .kind) 1 other)
 
 -- a Set's turn, step by step: v and o are read first, b₁ and s₁ are the window once the destination is written
@@ -72,14 +72,12 @@ set-law c w b s set ev eo eb₁ es₁ ex eb₂ es₂ ey ea =
 
 -- two parts, lent one after the other, that are the whole
 pub two-parts : (l x y : List ℕ) (n m : ℕ) → n ≤ m → length l ≡ m → length x ≡ length (take (n - 0) (drop 0 l))
-    → length y ≡ length (take (m - n) (drop n (take 0 l ++ (x ++ drop (n - 0) (drop 0 l)))))
-    → take n (take 0 l ++ (x ++ drop (n - 0) (drop 0 l))) ++ (y ++ drop (m - n) (drop n (take 0 l ++ (x ++ drop (n - 0) (drop 0 l)))))
-    ≡ x ++ y
+    → length y ≡ length (take (m - n) (drop n (lentBack l 0 n x))) → lentBack (lentBack l 0 n x) n m y ≡ x ++ y
 two-parts l x y n m up long ex ey =
-    let t = take 0 l ++ (x ++ drop (n - 0) (drop 0 l)) in
+    let t = lentBack l 0 n x in
     let same : length t ≡ length l = part-length l x 0 n (omega arith) (omega arith) ex in
     let nx : length x ≡ n - 0 = ex ∙ run-length l 0 (n - 0) (omega arith) in
     let ny : length y ≡ m - n = ey ∙ run-length t n (m - n) (omega arith) in
     part-back t y n m up (omega arith) ey
-    ∙ part-turn l x y 0 n (omega arith) (omega arith) ex
+    ∙ part-turn l x 0 n (omega arith) (omega arith) ex y
     ∙ store-all l (x ++ y) (rw length-append (omega arith))

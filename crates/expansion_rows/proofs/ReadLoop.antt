@@ -8,32 +8,34 @@ use lib.Dec.{eqb}
 use lib.ListN.{length, take, drop, length-append}
 use Rattle.lists.specs.Lists.{store}
 use Rattle.lists.proofs.Joined.{flatMap-append, flatMap-more}
-use Rattle.lists.proofs.Store.{store-none, part-turn, part-length}
+use Rattle.lists.proofs.Store.{store-none, lentBack, part-turn, part-length}
 use Rattle.words.specs.Words.{bit}
 use Rattle.call.specs.Calls.{Call}
-use Rattle.call.specs.Ops.{opRecord}
+use Rattle.call.specs.Ops.{OP-WIDTH, opRecord}
 use Rattle.call.specs.Cuts.{rest}
-use Rattle.access.specs.Access.{accessRecord}
+use Rattle.call.proofs.Cuts.{width-pos, width-eight}
+use Rattle.access.specs.Access.{ACCESS-WIDTH, accessRecord}
 use Rattle.window.specs.Window.{Window, windowOf}
-use Rattle.expansion_rows.specs.Rows.{copyRowWidth, Row, rowOf, rowsFrom, rowsOf}
+use Rattle.expansion_rows.specs.Rows.{Row, rowWith, copyRowWidth, widthsOf, rowsOf}
 use Rattle.expansion_rows.specs.Turns.{inverted, turnBytes, turnStamps, turnAccesses, rowOp, rowOps, passBytes, passStamps, passAccesses}
 use Rattle.expansion_rows.specs.Inside.{PassInside}
-use Rattle.expansion_rows.proofs.Width.{width-pos, width-eight, width-within}
-use Rattle.expansion_rows.proofs.RowList.{rows-none, rows-next}
+use Rattle.expansion_rows.proofs.Width.{width-cases, width-within}
+use Rattle.expansion_rows.proofs.Widths.{widths-next}
+use Rattle.expansion_rows.proofs.RowList.{rowsFrom, rows-none, rows-next}
 use Rattle.expansion_rows.proofs.Lengths.{turn-accesses-length}
 
 -- The first of the rows that are left, and those behind it
 
 module _ (c : Call) (w f : ℕ) (e : w ≡ copyRowWidth c) (some : 0 < c .count) where
-  next : rowsFrom c f ≡ rowOf c w f ∷ rowsFrom (rest c w) 0
+  next : rowsFrom c f ≡ rowWith c w f ∷ rowsFrom (rest c w) 0
   next = rows-next c w f e some
 
-  rows-step : length (rowsFrom c f) ≡ 1 + length (rowsFrom (rest c w) 0)
-  rows-step = ap (λ (rs : List Row). length rs) next ∙ omega arith
+  rows-step : length (widthsOf c) ≡ 1 + length (widthsOf (rest c w))
+  rows-step = ap (λ (ws : List ℕ). length ws) (widths-next c w e some) ∙ omega arith
 
   ops-step : (b : List ℕ)
       → flatMap opRecord (rowOps (rowsFrom c f) b)
-      ≡ opRecord (rowOp (rowOf c w f) b) ++ flatMap opRecord (rowOps (rowsFrom (rest c w) 0) (turnBytes c w b))
+      ≡ opRecord (rowOp (rowWith c w f) b) ++ flatMap opRecord (rowOps (rowsFrom (rest c w) 0) (turnBytes c w b))
   unfolding rowOps
   ops-step b = ap (λ (rs : List Row). flatMap opRecord (rowOps rs b)) next ∙ flatMap-more opRecord _ _
 
@@ -74,12 +76,12 @@ pub record PassAt
   pub stamps-same : length stamps ≡ length bytes₀
   pub ops-same : length ops ≡ length ops₀
   pub accesses-same : length accesses ≡ length accesses₀
-  pub rows-left : k + length (rowsFrom c f) ≡ length (rowsOf c₀)
+  pub rows-left : k + length (widthsOf c) ≡ length (widthsOf c₀)
   pub accesses-left : j + length (passAccesses (rowsFrom c f) (windowOf bytes stamps)) ≡ length (passAccesses (rowsOf c₀) (windowOf bytes₀ stamps₀))
   pub bytes-go : passBytes (rowsFrom c f) bytes ≡ passBytes (rowsOf c₀) bytes₀
   pub stamps-go : passStamps (rowsFrom c f) stamps ≡ passStamps (rowsOf c₀) stamps₀
-  pub ops-go : store ops (16 * k) (flatMap opRecord (rowOps (rowsFrom c f) bytes)) ≡ store ops₀ 0 (flatMap opRecord (rowOps (rowsOf c₀) bytes₀))
-  pub accesses-go : store accesses (29 * j) (flatMap accessRecord (passAccesses (rowsFrom c f) (windowOf bytes stamps)))
+  pub ops-go : store ops (OP-WIDTH * k) (flatMap opRecord (rowOps (rowsFrom c f) bytes)) ≡ store ops₀ 0 (flatMap opRecord (rowOps (rowsOf c₀) bytes₀))
+  pub accesses-go : store accesses (ACCESS-WIDTH * j) (flatMap accessRecord (passAccesses (rowsFrom c f) (windowOf bytes stamps)))
       ≡ store accesses₀ 0 (flatMap accessRecord (passAccesses (rowsOf c₀) (windowOf bytes₀ stamps₀)))
 
 pub pass-start : (c₀ : Call) (bytes stamps ops accesses : List ℕ) (per : ℕ) → PassInside c₀ bytes stamps ops accesses
@@ -113,9 +115,9 @@ pub record Ahead (per : ℕ) (bytes stamps ops accesses : List ℕ) (c : Call) (
   pub small : c .dst + c .count < 2 ^ 64
   pub later : c .stamp + 1 < 2 ^ 64
   pub window : length stamps ≡ length bytes
-  pub op-room : 16 * k + 16 ≤ length ops
-  pub access-room : 29 * (j + per) ≤ length accesses
-  pub access-part : 29 * (j + per) - 29 * j ≡ 29 * (1 + bit (inverted c))
+  pub op-room : OP-WIDTH * k + OP-WIDTH ≤ length ops
+  pub access-room : ACCESS-WIDTH * (j + per) ≤ length accesses
+  pub access-part : ACCESS-WIDTH * (j + per) - ACCESS-WIDTH * j ≡ ACCESS-WIDTH * (1 + bit (inverted c))
 
 module _
     (c₀ : Call) (bytes₀ stamps₀ ops₀ accesses₀ : List ℕ) (per : ℕ) (bytes stamps ops accesses : List ℕ) (c : Call) (f k j : ℕ)
@@ -136,14 +138,14 @@ module _
     ops-end : ops ≡ store ops₀ 0 (flatMap opRecord (rowOps (rowsOf c₀) bytes₀))
     unfolding rowOps flatMap
     ops-end =
-        sym (ap (λ (rs : List Row). store ops (16 * k) (flatMap opRecord (rowOps rs bytes))) over ∙ store-none ops (16 * k)) ∙ at .ops-go
+        sym (ap (λ (rs : List Row). store ops (OP-WIDTH * k) (flatMap opRecord (rowOps rs bytes))) over ∙ store-none ops (OP-WIDTH * k)) ∙ at .ops-go
 
     accesses-end : accesses ≡ store accesses₀ 0 (flatMap accessRecord (passAccesses (rowsOf c₀) (windowOf bytes₀ stamps₀)))
     unfolding passAccesses flatMap
     accesses-end =
         sym
-        (ap (λ (rs : List Row). store accesses (29 * j) (flatMap accessRecord (passAccesses rs (windowOf bytes stamps)))) over
-        ∙ store-none accesses (29 * j))
+        (ap (λ (rs : List Row). store accesses (ACCESS-WIDTH * j) (flatMap accessRecord (passAccesses rs (windowOf bytes stamps)))) over
+        ∙ store-none accesses (ACCESS-WIDTH * j))
         ∙ at .accesses-go
 
     pub pass-end : (bytes ≡ passBytes (rowsOf c₀) bytes₀)
@@ -169,9 +171,9 @@ module _
         let m = count-step c w f e some bytes stamps in
         let q = per-here in
         record {
-          pos = omega (arith, width-pos c);
+          pos = omega (arith, width-pos (width-cases c));
           within = omega (arith, width-within c some);
-          wide = omega (arith, width-eight c);
+          wide = omega (arith, width-eight (width-cases c));
           source = omega (arith, p .call .source);
           dest = dest-here;
           small = omega (arith, p .call .small);
@@ -182,15 +184,26 @@ module _
           access-part = omega arith;
         }
 
+    -- where the row's records go
+    abbrev op-from : ℕ
+    op-from = OP-WIDTH * k
+
+    abbrev op-to : ℕ
+    op-to = OP-WIDTH * k + OP-WIDTH
+
+    abbrev access-from : ℕ
+    access-from = ACCESS-WIDTH * j
+
+    abbrev access-to : ℕ
+    access-to = ACCESS-WIDTH * (j + per)
+
     pub pass-turn : (bytes′ stamps′ op access : List ℕ) (c′ : Call)
-        → bytes′ ≡ turnBytes c w bytes → stamps′ ≡ turnStamps c w stamps → op ≡ opRecord (rowOp (rowOf c w f) bytes)
+        → bytes′ ≡ turnBytes c w bytes → stamps′ ≡ turnStamps c w stamps → op ≡ opRecord (rowOp (rowWith c w f) bytes)
         → access ≡ flatMap accessRecord (turnAccesses c w (windowOf bytes stamps)) → c′ ≡ rest c w
         → length bytes′ ≡ length bytes → length stamps′ ≡ length stamps
-        → length op ≡ length (take (16 * k + 16 - 16 * k) (drop (16 * k) ops))
-        → length access ≡ length (take (29 * (j + per) - 29 * j) (drop (29 * j) accesses))
-        → PassAt c₀ bytes₀ stamps₀ ops₀ accesses₀ per bytes′ stamps′
-        (take (16 * k) ops ++ (op ++ drop (16 * k + 16 - 16 * k) (drop (16 * k) ops)))
-        (take (29 * j) accesses ++ (access ++ drop (29 * (j + per) - 29 * j) (drop (29 * j) accesses)))
+        → length op ≡ length (take (op-to - op-from) (drop op-from ops))
+        → length access ≡ length (take (access-to - access-from) (drop access-from accesses))
+        → PassAt c₀ bytes₀ stamps₀ ops₀ accesses₀ per bytes′ stamps′ (lentBack ops op-from op-to op) (lentBack accesses access-from access-to access)
         c′ 0 (k + 1) (j + per)
     pass-turn bytes′ stamps′ op access c′ eb es eo ea ec lb ls lo la =
         let a = ahead in
@@ -198,16 +211,16 @@ module _
         let n = rows-step c w f e some in
         let m = count-step c w f e some bytes stamps in
         let left = rowsFrom (rest c w) 0 in
-        let m′ : windowOf bytes′ stamps′ ≡ windowOf (turnBytes c w bytes) (turnStamps c w stamps) = cc (eb, es) in
-        let len : length (passAccesses left (windowOf bytes′ stamps′)) ≡ length (passAccesses left (windowOf (turnBytes c w bytes) (turnStamps c w stamps))) =
+        let window = windowOf (turnBytes c w bytes) (turnStamps c w stamps) in
+        let m′ : windowOf bytes′ stamps′ ≡ window = cc (eb, es) in
+        let len : length (passAccesses left (windowOf bytes′ stamps′)) ≡ length (passAccesses left window) =
         ap (λ (x : Window). length (passAccesses left x)) m′ in
-        let k16 : 16 * (k + 1) ≡ 16 * k + 16 = omega arith in
+        let one-more : OP-WIDTH * (k + 1) ≡ op-to = omega arith in
         let os = flatMap opRecord (rowOps left bytes′) in
         let rs = flatMap accessRecord (passAccesses left (windowOf bytes′ stamps′)) in
-        let op-back = take (16 * k) ops ++ (op ++ drop (16 * k + 16 - 16 * k) (drop (16 * k) ops)) in
-        subst
-        (λ (x : Call). PassAt c₀ bytes₀ stamps₀ ops₀ accesses₀ per bytes′ stamps′ op-back (take (29 * j) accesses ++ (access ++ drop (29 * (j + per) - 29 * j) (drop (29 * j) accesses))) x 0 (k + 1) (j + per))
-        (sym ec)
+        let op-back = lentBack ops op-from op-to op in
+        let access-back = lentBack accesses access-from access-to access in
+        subst (λ (x : Call). PassAt c₀ bytes₀ stamps₀ ops₀ accesses₀ per bytes′ stamps′ op-back access-back x 0 (k + 1) (j + per)) (sym ec)
         record {
           kind = at .kind;
           stamp = at .stamp;
@@ -216,25 +229,25 @@ module _
           per-is = at .per-is;
           bytes-same = lb ∙ at .bytes-same;
           stamps-same = ls ∙ at .stamps-same;
-          ops-same = part-length ops op (16 * k) (16 * k + 16) (omega arith) (a .op-room) lo ∙ at .ops-same;
-          accesses-same = part-length accesses access (29 * j) (29 * (j + per)) (omega arith) (a .access-room) la ∙ at .accesses-same;
+          ops-same = part-length ops op op-from op-to (omega arith) (a .op-room) lo ∙ at .ops-same;
+          accesses-same = part-length accesses access access-from access-to (omega arith) (a .access-room) la ∙ at .accesses-same;
           rows-left = omega (arith, at .rows-left);
           accesses-left = omega (arith, at .accesses-left);
           bytes-go = ap (λ (x : List ℕ). passBytes left x) eb ∙ sym (bytes-step c w f e some bytes) ∙ at .bytes-go;
           stamps-go = ap (λ (x : List ℕ). passStamps left x) es ∙ sym (stamps-step c w f e some stamps) ∙ at .stamps-go;
           ops-go =
-              ap (λ (x : ℕ). store op-back x os) k16
-              ∙ part-turn ops op os (16 * k) (16 * k + 16) (omega arith) (a .op-room) lo
-              ∙ ap (λ (l : List ℕ). store ops (16 * k) l) (cc (eo, eb, ops-step c w f e some bytes))
+              ap (λ (x : ℕ). store op-back x os) one-more
+              ∙ part-turn ops op op-from op-to (omega arith) (a .op-room) lo os
+              ∙ ap (λ (l : List ℕ). store ops op-from l) (cc (eo, eb, ops-step c w f e some bytes))
               ∙ at .ops-go;
           accesses-go =
-              part-turn accesses access rs (29 * j) (29 * (j + per)) (omega arith) (a .access-room) la
-              ∙ ap (λ (l : List ℕ). store accesses (29 * j) l)
+              part-turn accesses access access-from access-to (omega arith) (a .access-room) la rs
+              ∙ ap (λ (l : List ℕ). store accesses access-from l)
               (cc (
                 ea,
                 m′,
                 accesses-step c w f e some bytes stamps,
-                flatMap-append accessRecord (turnAccesses c w (windowOf bytes stamps)) (passAccesses left (windowOf (turnBytes c w bytes) (turnStamps c w stamps))),
+                flatMap-append accessRecord (turnAccesses c w (windowOf bytes stamps)) (passAccesses left window),
               ))
               ∙ at .accesses-go;
         }

@@ -1,21 +1,20 @@
--- The two laws of the width rule, and what follows from them alone. Nothing else looks at the rule, so a replacement of it ends here.
--- Assumes nothing.
+-- The two laws of the width rule. Nothing else looks at the rule, so a replacement of it ends here. Assumes nothing.
 use mathlib.Core.Path.{_≡_, refl}
-use mathlib.Core.Logic.{_⊎_, inl, inr}
+use mathlib.Core.Logic.{inl, inr}
 use mathlib.Core.Bool.{Bool, true, false, cond}
-use Prim.Native.Nat.{ℕ, _≤_, _<_}
-use native.Mathlib.Omega.{arith}
+use Prim.Native.Nat.{_≤_, _<_}
 use lib.Dec.{leb}
 use borrow.Author.Tests.{leb-true}
 use Rattle.call.specs.Calls.{Call}
+use Rattle.call.specs.Cuts.{OneOrEight}
 use Rattle.expansion_rows.specs.Rows.{copyRowWidth}
 
 -- 1 or 8
-pub width-cases : (c : Call) → (copyRowWidth c ≡ 1) ⊎ (copyRowWidth c ≡ 8)
+pub width-cases : (c : Call) → OneOrEight (copyRowWidth c)
 unfolding copyRowWidth
 width-cases c = step (leb 8 (c .count))
   where
-    step : (b : Bool) → (_≡_ {A = ℕ} (cond b 8 1) 1) ⊎ (_≡_ {A = ℕ} (cond b 8 1) 8)
+    step : (b : Bool) → OneOrEight (cond b 8 1)
     step true = inr refl
     step false = inl refl
 
@@ -27,9 +26,3 @@ width-within c h = step (leb 8 (c .count)) refl
     step : (b : Bool) → leb 8 (c .count) ≡ b → cond b 8 1 ≤ c .count
     step true e = leb-true 8 (c .count) e
     step false e = h
-
-pub width-pos : (c : Call) → 0 < copyRowWidth c
-width-pos c = elim (width-cases c) [ inl e ↦ omega arith | inr e ↦ omega arith ]
-
-pub width-eight : (c : Call) → copyRowWidth c ≤ 8
-width-eight c = elim (width-cases c) [ inl e ↦ omega arith | inr e ↦ omega arith ]

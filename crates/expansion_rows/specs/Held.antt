@@ -1,7 +1,8 @@
 -- The deferred writes of a Copy: those of its operation records, in their order, once all rows have read. The old words and stamps of
 -- each are as they stand when it is done. Assumes nothing.
-use Prim.Native.Nat.{ℕ, zero, suc, _+_}
-use mathlib.Core.List.{List, [], _∷_}
+use Prim.Native.Nat.{ℕ}
+use mathlib.Core.List.{List, [], _∷_, map}
+use Rattle.lists.specs.Lists.{listed}
 use Rattle.records.specs.Records.{recordAt}
 use Rattle.call.specs.Calls.{Op}
 use Rattle.call.specs.Ops.{opOf, OP-WIDTH}
@@ -33,7 +34,6 @@ unfoldable pub heldAccesses : List Op → Window → List Access
 heldAccesses [] m = []
 heldAccesses (o ∷ os) m = heldAccess o m ∷ heldAccesses os (windowOf (heldBytes o (m .bytes)) (heldStamps o (m .stamps)))
 
--- the n operation records from record k on of a list of numbers
-unfoldable pub opsFrom : List ℕ → ℕ → ℕ → List Op
-opsFrom l k zero = []
-opsFrom l k (suc n) = opOf (recordAt OP-WIDTH l k) ∷ opsFrom l (k + 1) n
+-- the first n operation records of a list of numbers
+abbrev pub opsIn : List ℕ → ℕ → List Op
+opsIn l n = map opOf (listed (recordAt OP-WIDTH l) 0 n)

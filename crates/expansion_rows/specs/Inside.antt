@@ -3,17 +3,14 @@
 use mathlib.Core.Path.{_≡_}
 use Prim.Native.Nat.{ℕ, _+_, _*_, _^_, _≤_, _<_}
 use mathlib.Core.List.{List}
-use lib.ListN.{length, getD}
+use lib.ListN.{length}
+use Rattle.words.specs.Words.{Bytes}
 use Rattle.call.specs.Calls.{Call, Op}
 use Rattle.call.specs.Ops.{OP-WIDTH}
 use Rattle.access.specs.Access.{ACCESS-WIDTH}
 use Rattle.window.specs.Window.{windowOf}
-use Rattle.expansion_rows.specs.Rows.{rowsOf}
+use Rattle.expansion_rows.specs.Rows.{widthsOf, rowsOf}
 use Rattle.expansion_rows.specs.Turns.{writeStamp, passAccesses}
-
--- every number of a window's bytes is a byte
-abbrev pub Bytes : List ℕ → Type 0
-Bytes l = (i : ℕ) → getD l i 0 < 256
 
 -- what remains of a call lies in a window of n cells; a Write has no destination there
 pub record CallInside (c : Call) (n : ℕ) : Type 0 where
@@ -26,7 +23,7 @@ pub record CallInside (c : Call) (n : ℕ) : Type 0 where
 pub record PassInside (c : Call) (bytes stamps ops accesses : List ℕ) : Type 0 where
   pub call : CallInside c (length bytes)
   pub window : length stamps ≡ length bytes
-  pub room : OP-WIDTH * length (rowsOf c) ≤ length ops
+  pub room : OP-WIDTH * length (widthsOf c) ≤ length ops
   pub space : ACCESS-WIDTH * length (passAccesses (rowsOf c) (windowOf bytes stamps)) ≤ length accesses
 
 -- a deferred write at stamp t lies in a window of n cells
@@ -34,4 +31,4 @@ pub record HeldInside (t n : ℕ) (o : Op) : Type 0 where
   pub wide : o .piece .width ≤ 8
   pub dest : o .call .dst + o .piece .width ≤ n
   pub stamp : writeStamp (o .call) ≡ t
-  pub bytes : (i : ℕ) → i < 8 → getD (o .piece .value) i 0 < 256
+  pub bytes : Bytes (o .piece .value)

@@ -2,19 +2,22 @@
 ghost use mathlib.Core.Path.{_≡_};
 ghost use mathlib.Core.List.{flatMap};
 ghost use Prim.Native.Nat.{ℕ, _+_, _*_, _≤_, _<_};
-ghost use lib.ListN.{length, getD};
+ghost use lib.ListN.{length};
 ghost use Rattle.lists.specs.Lists.{store, eightAt};
+ghost use Rattle.words.specs.Words.{Bytes};
 ghost use Rattle.records.specs.Records.{recordAt};
 ghost use Rattle.call.specs.Ops.{opOf, OP-WIDTH};
 ghost use Rattle.access.specs.Access.{ACCESS-WIDTH, accessRecord};
 ghost use Rattle.window.specs.Window.{windowOf};
-ghost use Rattle.expansion_rows.specs.Held.{heldBytes, heldStamps, heldAccess, heldAllBytes, heldAllStamps, heldAccesses, opsFrom};
+ghost use Rattle.expansion_rows.specs.Held.{heldBytes, heldStamps, heldAccess, heldAllBytes, heldAllStamps, heldAccesses, opsIn};
 ghost use Rattle.expansion_rows.specs.Inside.{HeldInside};
+use access::ACCESS_WIDTH;
+use call::OP_WIDTH;
 use window::accesses::write_cells;
 
 // The value bytes of an operation record.
 fn value_bytes(op: &[u64]) -> [u8; 8]
-    requires { ⌜ (length (now op) ≡ OP-WIDTH) × ((i : ℕ) → i < 8 → getD (eightAt (now op) 8) i 0 < 256) ⌝ }
+    requires { ⌜ (length (now op) ≡ OP-WIDTH) × Bytes (eightAt (now op) 8) ⌝ }
     ensures { λ r. ⌜ r ≡ eightAt (now (op .entry)) 8 ⌝ }
 {
     let mut out = [0; 8];
@@ -50,19 +53,21 @@ pub fn write_pass(
     ops: &[u64],
     accesses: &mut [u64],
 )
-    requires { ⌜ ((k : ℕ) → k < n → HeldInside stamp (length (now bytes)) (opOf (recordAt OP-WIDTH (now ops) k))) × (OP-WIDTH * n ≤ length (now ops)) × (length (now stamps) ≡ length (now bytes)) × (ACCESS-WIDTH * (j + n) ≤ length (now accesses)) ⌝ }
-    ensures { λ _. ⌜ now (bytes .exit) ≡ heldAllBytes (opsFrom (now (ops .entry)) 0 n) (now (bytes .entry)) ⌝ }
-    ensures { λ _. ⌜ now (stamps .exit) ≡ heldAllStamps (opsFrom (now (ops .entry)) 0 n) (now (stamps .entry)) ⌝ }
-    ensures { λ _. ⌜ now (accesses .exit) ≡ store (now (accesses .entry)) (ACCESS-WIDTH * j) (flatMap accessRecord (heldAccesses (opsFrom (now (ops .entry)) 0 n) (windowOf (now (bytes .entry)) (now (stamps .entry))))) ⌝ }
+    requires { ⌜ ((k : ℕ) → k < n → HeldInside stamp (length (now bytes)) (opOf (recordAt OP-WIDTH (now ops) k)))
+        × (OP-WIDTH * n ≤ length (now ops)) × (length (now stamps) ≡ length (now bytes)) × (ACCESS-WIDTH * (j + n) ≤ length (now accesses)) ⌝ }
+    ensures { λ _. ⌜ now (bytes .exit) ≡ heldAllBytes (opsIn (now (ops .entry)) n) (now (bytes .entry)) ⌝ }
+    ensures { λ _. ⌜ now (stamps .exit) ≡ heldAllStamps (opsIn (now (ops .entry)) n) (now (stamps .entry)) ⌝ }
+    ensures { λ _. ⌜ now (accesses .exit) ≡ store (now (accesses .entry)) (ACCESS-WIDTH * j)
+        (flatMap accessRecord (heldAccesses (opsIn (now (ops .entry)) n) (windowOf (now (bytes .entry)) (now (stamps .entry))))) ⌝ }
 {
     let mut k = 0;
     while k < n {
         write_held(
-            &ops[16 * k..16 * k + 16],
+            &ops[OP_WIDTH * k..OP_WIDTH * k + OP_WIDTH],
             stamp,
             bytes,
             stamps,
-            &mut accesses[29 * (j + k)..29 * (j + k) + 29],
+            &mut accesses[ACCESS_WIDTH * (j + k)..ACCESS_WIDTH * (j + k) + ACCESS_WIDTH],
         );
         k += 1;
     }

@@ -8,7 +8,7 @@ ghost use Rattle.words.specs.Words.{bit};
 ghost use Rattle.call.specs.Calls.{callOf};
 ghost use Rattle.call.specs.Ops.{opRecord};
 ghost use Rattle.call.specs.Cuts.{rest};
-ghost use Rattle.expansion_rows.specs.Rows.{copyRowWidth, rowsOf};
+ghost use Rattle.expansion_rows.specs.Rows.{copyRowWidth, widthsOf};
 use call::CopyCall;
 use window::accesses::byte_words;
 
@@ -36,7 +36,7 @@ pub fn rest(call: CopyCall, width: u64) -> CopyCall
 // How many rows a call has.
 pub fn row_count(call: CopyCall) -> usize
     requires { ⌜ (call .src + call .count < 2 ^ 64) × (call .dst + call .count < 2 ^ 64) ⌝ }
-    ensures { λ r. ⌜ r ≡ length (rowsOf (callOf call)) ⌝ }
+    ensures { λ r. ⌜ r ≡ length (widthsOf (callOf call)) ⌝ }
     ensures { λ r. ⌜ r ≤ call .count ⌝ }
 {
     let mut left = call;
@@ -57,7 +57,12 @@ fn end_flag(count: u64, width: u64) -> u64
 
 // The operation record of a row.
 pub fn op_record(call: CopyCall, width: u64, first: u64, value: [u8; 8]) -> [u64; 16]
-    ensures { λ r. ⌜ r ≡ opRecord (record { call = callOf call; piece = record { width = width; value = value }; first = first; end = bit (leb (call .count) width) }) ⌝ }
+    ensures { λ r. ⌜ r ≡ opRecord (record {
+      call = callOf call;
+      piece = record { width = width; value = value };
+      first = first;
+      end = bit (leb (call .count) width);
+    }) ⌝ }
 {
     let v = byte_words(value);
     let end = end_flag(call.count, width);

@@ -11,13 +11,15 @@ ghost use Rattle.call.specs.Calls.{callOf};
 ghost use Rattle.call.specs.Ops.{opRecord, OP-WIDTH};
 ghost use Rattle.access.specs.Access.{ACCESS-WIDTH, accessRecord};
 ghost use Rattle.window.specs.Window.{windowOf};
-ghost use Rattle.expansion_rows.specs.Rows.{rowOf, rowsOf};
+ghost use Rattle.expansion_rows.specs.Rows.{rowWith, rowsOf};
 ghost use Rattle.expansion_rows.specs.Turns.{inverted, valueAt, turnBytes, turnStamps, turnAccesses, rowOp, rowOps, passBytes, passStamps, passAccesses};
 ghost use Rattle.expansion_rows.specs.Inside.{PassInside};
 use crate::rows::copy_row_width;
 use crate::rows::op_record;
 use crate::rows::rest;
+use access::ACCESS_WIDTH;
 use call::CopyCall;
+use call::OP_WIDTH;
 use lists::slices::put;
 use window::accesses::read_cells;
 use window::accesses::write_back;
@@ -33,7 +35,8 @@ fn set_turn(
     stamps: &mut [u64],
     accesses: &mut [u64],
 ) -> [u8; 8]
-    requires { ⌜ (call .kind ≡ 1) × (width ≤ 8) × (call .src + width ≤ length (now bytes)) × (call .dst + width ≤ length (now bytes)) × (length (now stamps) ≡ length (now bytes)) × (length (now accesses) ≡ 2 * ACCESS-WIDTH) × (call .timestamp + 1 < 2 ^ 64) ⌝ }
+    requires { ⌜ (call .kind ≡ 1) × (width ≤ 8) × (call .src + width ≤ length (now bytes)) × (call .dst + width ≤ length (now bytes))
+        × (length (now stamps) ≡ length (now bytes)) × (length (now accesses) ≡ 2 * ACCESS-WIDTH) × (call .timestamp + 1 < 2 ^ 64) ⌝ }
     ensures { λ r. ⌜ r ≡ valueAt (callOf call) width (now (bytes .entry)) ⌝ }
     ensures { λ _. ⌜ now (bytes .exit) ≡ turnBytes (callOf call) width (now (bytes .entry)) ⌝ }
     ensures { λ _. ⌜ now (stamps .exit) ≡ turnStamps (callOf call) width (now (stamps .entry)) ⌝ }
@@ -50,7 +53,7 @@ fn set_turn(
         width,
         value,
         call.timestamp,
-        &mut accesses[0..29],
+        &mut accesses[0..ACCESS_WIDTH],
     );
     let later = call.timestamp + 1;
     write_back(
@@ -61,7 +64,7 @@ fn set_turn(
         value,
         old_stamps,
         later,
-        &mut accesses[29..58],
+        &mut accesses[ACCESS_WIDTH..2 * ACCESS_WIDTH],
     );
     value
 }
@@ -74,7 +77,9 @@ fn turn(
     stamps: &mut [u64],
     accesses: &mut [u64],
 ) -> [u8; 8]
-    requires { ⌜ (width ≤ 8) × (call .src + width ≤ length (now bytes)) × (call .kind ≡ 1 → call .dst + width ≤ length (now bytes)) × (length (now stamps) ≡ length (now bytes)) × (length (now accesses) ≡ ACCESS-WIDTH * (1 + bit (inverted (callOf call)))) × (call .timestamp + 1 < 2 ^ 64) ⌝ }
+    requires { ⌜ (width ≤ 8) × (call .src + width ≤ length (now bytes)) × (call .kind ≡ 1 → call .dst + width ≤ length (now bytes))
+        × (length (now stamps) ≡ length (now bytes))
+        × (length (now accesses) ≡ ACCESS-WIDTH * (1 + bit (inverted (callOf call)))) × (call .timestamp + 1 < 2 ^ 64) ⌝ }
     ensures { λ r. ⌜ r ≡ valueAt (callOf call) width (now (bytes .entry)) ⌝ }
     ensures { λ _. ⌜ now (bytes .exit) ≡ turnBytes (callOf call) width (now (bytes .entry)) ⌝ }
     ensures { λ _. ⌜ now (stamps .exit) ≡ turnStamps (callOf call) width (now (stamps .entry)) ⌝ }
@@ -96,10 +101,12 @@ fn row_turn(
     op: &mut [u64],
     accesses: &mut [u64],
 )
-    requires { ⌜ (width ≤ 8) × (call .src + width ≤ length (now bytes)) × (call .kind ≡ 1 → call .dst + width ≤ length (now bytes)) × (length (now stamps) ≡ length (now bytes)) × (length (now op) ≡ OP-WIDTH) × (length (now accesses) ≡ ACCESS-WIDTH * (1 + bit (inverted (callOf call)))) × (call .timestamp + 1 < 2 ^ 64) ⌝ }
+    requires { ⌜ (width ≤ 8) × (call .src + width ≤ length (now bytes)) × (call .kind ≡ 1 → call .dst + width ≤ length (now bytes))
+        × (length (now stamps) ≡ length (now bytes)) × (length (now op) ≡ OP-WIDTH)
+        × (length (now accesses) ≡ ACCESS-WIDTH * (1 + bit (inverted (callOf call)))) × (call .timestamp + 1 < 2 ^ 64) ⌝ }
     ensures { λ _. ⌜ now (bytes .exit) ≡ turnBytes (callOf call) width (now (bytes .entry)) ⌝ }
     ensures { λ _. ⌜ now (stamps .exit) ≡ turnStamps (callOf call) width (now (stamps .entry)) ⌝ }
-    ensures { λ _. ⌜ now (op .exit) ≡ opRecord (rowOp (rowOf (callOf call) width first) (now (bytes .entry))) ⌝ }
+    ensures { λ _. ⌜ now (op .exit) ≡ opRecord (rowOp (rowWith (callOf call) width first) (now (bytes .entry))) ⌝ }
     ensures { λ _. ⌜ now (accesses .exit) ≡ flatMap accessRecord (turnAccesses (callOf call) width (windowOf (now (bytes .entry)) (now (stamps .entry)))) ⌝ }
 {
     let value = turn(call, width, bytes, stamps, accesses);
@@ -126,7 +133,8 @@ pub fn read_pass(
     ensures { λ _. ⌜ now (bytes .exit) ≡ passBytes (rowsOf (callOf call)) (now (bytes .entry)) ⌝ }
     ensures { λ _. ⌜ now (stamps .exit) ≡ passStamps (rowsOf (callOf call)) (now (stamps .entry)) ⌝ }
     ensures { λ _. ⌜ now (ops .exit) ≡ store (now (ops .entry)) 0 (flatMap opRecord (rowOps (rowsOf (callOf call)) (now (bytes .entry)))) ⌝ }
-    ensures { λ _. ⌜ now (accesses .exit) ≡ store (now (accesses .entry)) 0 (flatMap accessRecord (passAccesses (rowsOf (callOf call)) (windowOf (now (bytes .entry)) (now (stamps .entry))))) ⌝ }
+    ensures { λ _. ⌜ now (accesses .exit) ≡ store (now (accesses .entry)) 0
+        (flatMap accessRecord (passAccesses (rowsOf (callOf call)) (windowOf (now (bytes .entry)) (now (stamps .entry))))) ⌝ }
 {
     let per = per_turn(call.kind);
     let mut left = call;
@@ -141,8 +149,8 @@ pub fn read_pass(
             first,
             bytes,
             stamps,
-            &mut ops[16 * k..16 * k + 16],
-            &mut accesses[29 * j..29 * (j + per)],
+            &mut ops[OP_WIDTH * k..OP_WIDTH * k + OP_WIDTH],
+            &mut accesses[ACCESS_WIDTH * j..ACCESS_WIDTH * (j + per)],
         );
         left = rest(left, width);
         first = 0;

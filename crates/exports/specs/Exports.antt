@@ -8,11 +8,18 @@ use lib.Dec.{eqb}
 use lib.ListN.{length}
 use Rattle.answer.specs.Numbers.{accepted, refused}
 use Rattle.answer.specs.declared.Answer.{Answer}
+use Rattle.records.specs.Records.{LIMIT, recordCount}
+use Rattle.access.specs.Access.{ACCESS-WIDTH}
+use Rattle.routing.specs.Routing.{Lists, roomsOf, routeAnswer, routeNumbers, RouteDone}
 use Rattle.routing.specs.declared.RouteNumbers.{RouteNumbers}
 use Rattle.read_back.specs.ReadBack.{readBackAnswer, ReadBackNumbers, readBackNumbers, ReadDone}
 use Rattle.read_back.specs.ReadBack.{countsAfter as readCounts}
 
 -- Routing
+
+-- the numbers of routing's answer, for three lent lists
+abbrev pub flatRouteNumbers : List ℕ → Lists → RouteNumbers
+flatRouteNumbers l before = routeNumbers 8 (routeAnswer LIMIT l (roomsOf before))
 
 -- the answer in three numbers: so many records were read, or the refusal
 abbrev pub routedNumbers : ℕ → RouteNumbers → Answer
@@ -21,6 +28,12 @@ routedNumbers records n = cond (eqb (n .number) 0) (accepted records) (refused (
 -- the three counts afterwards: a refusal writes nothing
 abbrev pub routedCounts : RouteNumbers → List ℕ → List ℕ
 routedCounts n counts = cond (eqb (n .number) 0) (n .register ∷ n .aligned ∷ n .general ∷ []) counts
+
+-- what the function has to show: its answer, the three lists and the counts when it is done
+pub record FlatRouted (l : List ℕ) (before : Lists) (counts : List ℕ) (r : Answer) (after : Lists) (countsLater : List ℕ) : Type 0 where
+  pub routed : RouteDone LIMIT 8 l before (flatRouteNumbers l before) after
+  pub answer : r ≡ routedNumbers (recordCount ACCESS-WIDTH l) (flatRouteNumbers l before)
+  pub counted : countsLater ≡ routedCounts (flatRouteNumbers l before) counts
 
 -- Read-back
 

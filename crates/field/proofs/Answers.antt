@@ -1,13 +1,9 @@
--- The three answers of a field operation (document 01's refusal 14: "place is the index of the lowest such number"), and that nothing is
--- lost in the numbers of an answer. Assumes nothing.
+-- The three answers of a field operation (document 01's refusal 14: "place is the index of the lowest such number"). Assumes nothing.
 use mathlib.Core.Path.{_≡_, ap}
 use Prim.Native.Nat.{ℕ, _<_, _≤_}
-use native.Mathlib.Omega.{arith}
 use borrow.Author.Tests.{lt-ltb, le-ltb}
-use Rattle.answer.proofs.Parts.{number-same, place-same, value-same}
 use Rattle.field.specs.Field.{p}
-use Rattle.field.specs.Answers.{fieldAnswer, fieldNumbers}
-use Rattle.field.specs.declared.FieldAnswer.{FieldAnswer}
+use Rattle.field.specs.Answers.{fieldAnswer}
 use Rattle.field.specs.declared.FieldAnswer.the-variants.{Element, NotElement}
 
 pub first-refused : (a b v : ℕ) → p ≤ a → NotElement 0 ≡ fieldAnswer a b v
@@ -21,10 +17,3 @@ second-refused a b v h k = simp (lt-ltb a p h, le-ltb b p k)
 pub element-answer : (a b v : ℕ) {w : ℕ} → a < p → b < p → w ≡ v → Element w ≡ fieldAnswer a b v
 unfolding fieldAnswer
 element-answer a b v h k e = simp (lt-ltb a p h, lt-ltb b p k) (ap Element e)
-
--- two answers with the same numbers are the same case with the same value
-pub fieldNumbers-injective : (x y : FieldAnswer) → fieldNumbers x ≡ fieldNumbers y → x ≡ y
-fieldNumbers-injective (Element v) (Element w) e = ap Element (value-same e)
-fieldNumbers-injective (Element v) (NotElement k) e = absurd (omega (arith, number-same e))
-fieldNumbers-injective (NotElement k) (Element v) e = absurd (omega (arith, number-same e))
-fieldNumbers-injective (NotElement j) (NotElement k) e = ap NotElement (place-same e)

@@ -5,6 +5,8 @@ pub mod Carry
 pub mod Theorems
 pub mod Constants
 pub mod Answers
+pub mod FirstLarge
+pub mod Verdicts
 pub mod Reduction
 pub mod Pigeon
 pub mod Proth

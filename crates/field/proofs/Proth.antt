@@ -3,7 +3,8 @@
 -- And: modulo a number with no divisors, a product is 0 only if a factor is. Assumes nothing.
 use mathlib.Core.Path.{_≡_, refl, sym, ap, _∙_, subst}
 use Prim.Native.Nat.{ℕ, zero, suc, _+_, _-_, _*_, _/_, _%_, _^_, _≤_, _<_, _∣_}
-use native.Mathlib.Nat.{div-add-mod', mod-lt, mod-eq-of-lt, mod-mod-of-dvd, mod-eq-zero-of-dvd, dvd-add-iff-right, dvd-mul-right, dvd-mul-left-of-dvd, two-pow-succ, pow-suc, pow-zero, one-mul, zero-mul, suc-mul, suc-mod, emod-pos-of-not-dvd}
+use native.Mathlib.Nat.{div-add-mod', mod-lt, mod-eq-of-lt, mod-mod-of-dvd, mod-eq-zero-of-dvd, suc-mod, emod-pos-of-not-dvd}
+use native.Mathlib.Nat.{dvd-add-iff-right, dvd-mul-right, dvd-mul-left-of-dvd, two-pow-succ, pow-suc, pow-zero, one-mul, zero-mul, suc-mul}
 use native.Mathlib.Decide.{decLe}
 use native.Mathlib.Omega.{arith}
 use lib.Pow.{pow-add}

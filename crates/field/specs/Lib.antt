@@ -1,4 +1,5 @@
 pub mod Field
+pub mod Rows
 pub mod Constants
 pub mod Carries
 pub mod Theorems

@@ -2,12 +2,12 @@
 -- live row and five numbers for each call". Assumes nothing.
 use mathlib.Core.Path.{_≡_, refl, sym, ap, _∙_}
 use mathlib.Core.Bool.{Bool, true, false}
-use mathlib.Core.List.{List, _++_}
-use Prim.Native.Nat.{ℕ, _+_, _-_, _*_, _≤_, _<_}
+use mathlib.Core.List.{List}
+use Prim.Native.Nat.{ℕ, _+_, _*_, _≤_, _<_}
 use native.Mathlib.Omega.{arith}
-use lib.ListN.{length, take, drop}
+use lib.ListN.{length}
 use Rattle.lists.specs.Lists.{store, picked, counted, oneMore, placed}
-use Rattle.lists.proofs.Store.{store-none, length-store, store-append, part-store}
+use Rattle.lists.proofs.Store.{store-none, length-store, store-append}
 use Rattle.lists.proofs.Flat.{picked-none, picked-yes, picked-no, picked-length, counted-none, counted-more, counted-yes, counted-mono, row-within}
 
 pub count-next : (test : ℕ → Bool) (k j next : ℕ) → j ≡ counted test k → next ≡ oneMore (test k) j → next ≡ counted test (k + 1)
@@ -27,7 +27,8 @@ filled-start test g buffer₀ =
       filled = sym (ap (store buffer₀ 0) (picked-none test g) ∙ store-none buffer₀ 0);
     }
 
-module _ (v : ℕ) (test : ℕ → Bool) (g : ℕ → List ℕ) (wide : (i : ℕ) → length (g i) ≡ v) (buffer₀ buffer : List ℕ) (j k : ℕ)
+-- parts of v numbers, as far as they were looked at
+module _ (v : ℕ) (test : ℕ → Bool) (g : ℕ → List ℕ) (buffer₀ buffer : List ℕ) (j k : ℕ) (wide : (i : ℕ) → i < k → length (g i) ≡ v)
     (f : Filled test g buffer₀ buffer j k) where
   scaled : v * j ≡ v * counted test k
   scaled = ap (λ (n : ℕ). v * n) (f .count)
@@ -39,7 +40,7 @@ module _ (v : ℕ) (test : ℕ → Bool) (g : ℕ → List ℕ) (wide : (i : ℕ
     where
       step : (b : Bool) → test k ≡ b → placed b v j (g k) buffer ≡ store buffer₀ 0 (picked test g (k + 1))
       step true h =
-          let z : v * j ≡ 0 + length (picked test g k) = omega (arith, scaled, picked-length v test g k (λ i _. wide i)) in
+          let z : v * j ≡ 0 + length (picked test g k) = omega (arith, scaled, picked-length v test g k wide) in
           (λ i. store (f .filled i) (z i) (g k))
           ∙ sym (store-append buffer₀ 0 (picked test g k) (g k))
           ∙ ap (store buffer₀ 0) (sym (picked-yes test g k h))
@@ -58,12 +59,3 @@ module _ (v : ℕ) (test : ℕ → Bool) (g : ℕ → List ℕ) (wide : (i : ℕ
         fits,
         row-within v (counted test k) (counted test n) (omega (arith, counted-yes test k wanted, counted-mono test n (k + 1) (omega arith))),
       )
-
--- a part that was lent and came back as the record of a row that meets the test
-pub part-placed : (wanted : Bool) (v j : ℕ) (r last buffer : List ℕ) → wanted ≡ true → last ≡ r → length r ≡ v → v * j + v ≤ length buffer
-    → take (v * j) buffer ++ (last ++ drop (v * j + v - v * j) (drop (v * j) buffer)) ≡ placed wanted v j r buffer
-part-placed wanted v j r last buffer h e n fits =
-    let z : v * j + v - v * j ≡ v = omega arith in
-    (λ i. take (v * j) buffer ++ (e i ++ drop (z i) (drop (v * j) buffer)))
-    ∙ part-store buffer r (v * j) v n fits
-    ∙ ap (λ (b : Bool). placed b v j r buffer) (sym h)

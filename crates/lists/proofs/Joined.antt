@@ -1,4 +1,4 @@
--- Laws of lists joined part by part, and of what holds of all elements. Assumes nothing.
+-- Laws of lists joined part by part. Assumes nothing.
 use mathlib.Core.Path.{_≡_, refl, sym, ap, ap₂, _∙_}
 use mathlib.Core.List.{List, [], _∷_, _++_, flatMap, append-assoc}
 use Prim.Native.Nat.{ℕ, _+_, _*_}
@@ -28,13 +28,3 @@ flatMap-length v f (x ∷ xs) each =
     length-append (f x) (flatMap f xs)
     ∙ ap₂ (λ (a b : ℕ). a + b) (each .0) (flatMap-length v f xs (each .1))
     ∙ omega (arith, mul-suc v (length xs))
-
--- Of all elements
-
-pub all-append : {A : Type 0} (P : A → Type 0) (xs ys : List A) → All P xs → All P ys → All P (xs ++ ys)
-all-append P [] ys h k = k
-all-append P (x ∷ xs) ys h k = (h .0, all-append P xs ys (h .1) k)
-
-pub all-of : {A : Type 0} {P : A → Type 0} → ((x : A) → P x) → (xs : List A) → All P xs
-all-of h [] = tt
-all-of h (x ∷ xs) = (h x, all-of h xs)

@@ -1,6 +1,7 @@
 pub mod Tests
 pub mod Places
 pub mod Numbers
+pub mod All
 pub mod Joined
 pub mod Store
 pub mod First

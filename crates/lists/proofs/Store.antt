@@ -1,6 +1,4 @@
--- Laws of `store`: what stands in a list after numbers were written into it, one by one or as a lent part that came back. A part that
--- was lent from p to q and came back as xs leaves `take p l ++ (xs ++ drop (q - p) (drop p l))`; the laws are stated in that form.
--- Assumes nothing.
+-- Laws of `store`: what stands in a list after numbers were written into it, one by one or as a lent part that came back. Assumes nothing.
 use mathlib.Core.Path.{_≡_, refl, sym, ap, _∙_}
 use mathlib.Core.List.{List, [], _∷_, _++_, append-nil, append-assoc}
 use Prim.Native.Nat.{ℕ, _+_, _-_, _≤_, _<_, zero, suc}
@@ -33,6 +31,10 @@ store-append l i [] ys = rw add-zero
 store-append l i (x ∷ xs) ys =
     let e : (i + 1) + length xs ≡ i + length (x ∷ xs) = omega arith in
     store-append (set l i x) (i + 1) xs ys ∙ ap (λ (n : ℕ). store (store (set l i x) (i + 1) xs) n ys) e
+
+-- and where the second is said to begin
+pub store-behind : (l : List ℕ) (i j : ℕ) (xs ys : List ℕ) → j ≡ i + length xs → store (store l i xs) j ys ≡ store l i (xs ++ ys)
+store-behind l i j xs ys e = ap (λ (n : ℕ). store (store l i xs) n ys) e ∙ sym (store-append l i xs ys)
 
 store-sets : (l : List ℕ) (i : ℕ) (vs : List ℕ) → store l i vs ≡ sets l i vs
 unfolding store
@@ -87,24 +89,25 @@ part-store l ys p m e h =
     ∙ sym (append-assoc (take p l) ys (drop (p + length ys) l))
     ∙ sym (store-eq l p ys (omega arith))
 
--- the part from p to q came back as xs, as long as it was lent
-pub part-back : (l xs : List ℕ) (p q : ℕ) → p ≤ q → q ≤ length l → length xs ≡ length (take (q - p) (drop p l))
-    → take p l ++ (xs ++ drop (q - p) (drop p l)) ≡ store l p xs
-part-back l xs p q up fits same = part-store l xs p (q - p) (same ∙ run-length l p (q - p) (omega arith)) (omega arith)
+-- l, whose part from p to q was lent and came back as xs
+abbrev pub lentBack : List ℕ → ℕ → ℕ → List ℕ → List ℕ
+lentBack l p q xs = take p l ++ (xs ++ drop (q - p) (drop p l))
 
-pub part-length : (l xs : List ℕ) (p q : ℕ) → p ≤ q → q ≤ length l → length xs ≡ length (take (q - p) (drop p l))
-    → length (take p l ++ (xs ++ drop (q - p) (drop p l))) ≡ length l
-part-length l xs p q up fits same = ap length (part-back l xs p q up fits same) ∙ length-store l p xs
+-- as long as it was lent
+module _ (l xs : List ℕ) (p q : ℕ) (up : p ≤ q) (fits : q ≤ length l) (same : length xs ≡ length (take (q - p) (drop p l))) where
+  part-long : length xs ≡ q - p
+  part-long = same ∙ run-length l p (q - p) (omega arith)
 
--- a turn that lends that part, and goes on with ys behind it
-pub part-turn : (l xs ys : List ℕ) (p q : ℕ) → p ≤ q → q ≤ length l → length xs ≡ length (take (q - p) (drop p l))
-    → store (take p l ++ (xs ++ drop (q - p) (drop p l))) q ys ≡ store l p (xs ++ ys)
-part-turn l xs ys p q up fits same =
-    let n : length xs ≡ q - p = same ∙ run-length l p (q - p) (omega arith) in
-    let z : q ≡ p + length xs = omega arith in
-    ap (λ (r : List ℕ). store r q ys) (part-back l xs p q up fits same)
-    ∙ ap (λ (i : ℕ). store (store l p xs) i ys) z
-    ∙ sym (store-append l p xs ys)
+  pub part-back : lentBack l p q xs ≡ store l p xs
+  part-back = part-store l xs p (q - p) part-long (omega arith)
+
+  pub part-length : length (lentBack l p q xs) ≡ length l
+  part-length = ap length part-back ∙ length-store l p xs
+
+  -- a turn that lends that part, and goes on with ys behind it
+  pub part-turn : (ys : List ℕ) → store (lentBack l p q xs) q ys ≡ store l p (xs ++ ys)
+  part-turn ys =
+      ap (λ (r : List ℕ). store r q ys) part-back ∙ store-behind l p q xs ys (omega (arith, part-long))
 
 -- Single numbers after a store: before the run, behind it, in it
 

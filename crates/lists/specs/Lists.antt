@@ -1,5 +1,5 @@
--- Lists that are read, filled and searched: the number in a place, what holds of all elements, what is stored where, what is joined, the
--- lowest index that meets a test. Nothing here names a width, a table or a limit. Assumes nothing.
+-- Lists that are read, filled and searched: the number in a place, what holds of all elements, their sum, what is stored where, what is
+-- joined, the lowest index that meets a test. Nothing here names a width, a table or a limit. Assumes nothing.
 use mathlib.Core.Path.{_≡_}
 use Prim.Native.Nat.{ℕ, zero, suc, _+_, _≤_, _<_, _*_}
 use mathlib.Core.Bool.{Bool, true, false, cond, _&&_}
@@ -22,6 +22,11 @@ eightAt r c =
 abbrev pub All {ℓ} : {A : Type ℓ} → (A → Type 0) → List A → Type 0
 All P [] = Unit {0}
 All P (x ∷ xs) = P x × All P xs
+
+-- the sum of all numbers
+abbrev pub sum : List ℕ → ℕ
+sum [] = 0
+sum (x ∷ xs) = x + sum xs
 
 -- whether two lists of numbers are the same
 unfoldable pub same : List ℕ → List ℕ → Bool

@@ -18,12 +18,13 @@ use Rattle.records.proofs.Records.{all-good, record-whole, within-length, withi
 use Rattle.records.proofs.Table as tables
 use Rattle.access.specs.Access.{accessOf}
 use Rattle.access.proofs.Good.{good-length}
-use Rattle.memw_rows.specs.Rows.{regRowOf}
-use Rattle.memw_rows.proofs.Wide.{memw-wide, aligned-wide, register-wide}
+use Rattle.memw.specs.Rows.{regRowOf}
+use Rattle.memw.proofs.Wide.{memw-wide, aligned-wide, register-wide}
 use Rattle.memw.specs.Register.{registerLimits, goodRegister}
-use Rattle.memw.specs.Tables.{recordWidth, rowWidth, goodRecord, recordRow, paddingRow, memwRowAt, memwAnswer, memwAfter}
-use Rattle.memw.specs.declared.AccessTable.{AccessTable}
-use Rattle.memw.specs.declared.AccessTable.the-variants.{General, Aligned, Register}
+use Rattle.access.specs.Tables.{recordWidth}
+use Rattle.memw.specs.Tables.{rowWidth, goodRecord, recordRow, tablePadding, memwRowAt, memwAnswer, memwAfter}
+use Rattle.access.specs.declared.AccessTable.{AccessTable}
+use Rattle.access.specs.declared.AccessTable.the-variants.{General, Aligned, Register}
 
 -- Widths
 
@@ -42,7 +43,7 @@ row-wide General r = memw-wide (accessOf r)
 row-wide Aligned r = aligned-wide (accessOf r)
 row-wide Register r = register-wide (regRowOf r)
 
-pub padding-wide : (t : AccessTable) → length (paddingRow t) ≡ rowWidth t
+pub padding-wide : (t : AccessTable) → length (tablePadding t) ≡ rowWidth t
 padding-wide General = refl
 padding-wide Aligned = refl
 padding-wide Register = refl
@@ -95,26 +96,26 @@ module _ (t : AccessTable) (records : List ℕ) where
       ≡ memwAfter t records (Made (k + 1)) table
   unfolding memwAfter tableAfter
   next-row table now written k q e fits =
-      tables.rows-more (rowWidth t) (recordWidth t) (recordRow t) (paddingRow t) (row-wide t) (padding-wide t) records table now written k q e fits
+      tables.rows-more (rowWidth t) (recordWidth t) (recordRow t) (tablePadding t) (row-wide t) (padding-wide t) records table now written k q e fits
 
   -- the lent table keeps its length
   pub after-length : (answer : TableAnswer) (table : List ℕ) → length (memwAfter t records answer table) ≡ length table
   unfolding memwAfter
-  after-length answer table = tables.after-length (recordWidth t) (recordRow t) (paddingRow t) records answer table
+  after-length answer table = tables.after-length (recordWidth t) (recordRow t) (tablePadding t) records answer table
 
   -- row k is that of record k, and padding after the last record
   pub row-of-record : (k : ℕ) → k < recordCount (recordWidth t) records → memwRowAt t records k ≡ recordRow t (recordAt (recordWidth t) records k)
-  row-of-record k h = tables.row-record (recordWidth t) (recordRow t) (paddingRow t) records k h
+  row-of-record k h = tables.row-record (recordWidth t) (recordRow t) (tablePadding t) records k h
 
-  pub row-of-none : (k : ℕ) → recordCount (recordWidth t) records ≤ k → memwRowAt t records k ≡ paddingRow t
-  row-of-none k h = tables.row-padding (recordWidth t) (recordRow t) (paddingRow t) records k h
+  pub row-of-none : (k : ℕ) → recordCount (recordWidth t) records ≤ k → memwRowAt t records k ≡ tablePadding t
+  row-of-none k h = tables.row-padding (recordWidth t) (recordRow t) (tablePadding t) records k h
 
 -- what the row of each good record has, and padding, every row of a made table has
 pub every-row : (t : AccessTable) (P : List ℕ → Type 0) (limit : ℕ) (records table : List ℕ) (rows : ℕ)
-    → ((r : List ℕ) → goodRecord t r ≡ true → P (recordRow t r)) → P (paddingRow t)
+    → ((r : List ℕ) → goodRecord t r ≡ true → P (recordRow t r)) → P (tablePadding t)
     → memwAnswer t limit records (length table) ≡ Made rows → (k : ℕ) → k < rows
     → P (recordAt (rowWidth t) (memwAfter t records (Made rows) table) k)
 unfolding memwAnswer memwAfter
 every-row t P limit records table rows each pads made k h =
-    tables.every-row (rowWidth t) (recordWidth t) (recordRow t) (paddingRow t) (row-wide t) (padding-wide t) records P (goodRecord t) limit rows
+    tables.every-row (rowWidth t) (recordWidth t) (recordRow t) (tablePadding t) (row-wide t) (padding-wide t) records P (goodRecord t) limit rows
     table each pads made k h

@@ -1,2 +1,7 @@
+pub mod MemwColumns
+pub mod AlignedColumns
+pub mod RegisterColumns
+pub mod Rows
+pub mod CarryExamples
 pub mod Register
 pub mod Tables

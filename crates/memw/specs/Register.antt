@@ -6,10 +6,6 @@ use mathlib.Core.List.{List, [], _∷_, _++_}
 use lib.ListN.{replicate}
 use Rattle.records.specs.Records.{within}
 
--- numbers in a register record
-abbrev pub REGISTER-WIDTH : ℕ
-REGISTER-WIDTH = 8
-
 -- the largest value of each number of a register record
 unfoldable pub registerLimits : List ℕ
 registerLimits = (2 ^ 16 - 1) ∷ (2 ^ 64 - 1) ∷ (replicate 5 (2 ^ 32 - 1) ++ (1 ∷ []))

@@ -3,24 +3,20 @@
 use Prim.Native.Nat.{ℕ}
 use mathlib.Core.Bool.{Bool}
 use mathlib.Core.List.{List}
-use lib.ListN.{replicate}
+use lib.ListN.{length, replicate}
+use Rattle.answer.specs.declared.Answer.{Answer}
 use Rattle.records.specs.Records.{recordCount, firstBad}
-use Rattle.records.specs.Table.{tableAnswer, rowAt, tableAfter}
+use Rattle.records.specs.Table.{tableAnswer, rowAt, tableAfter, TableDone}
 use Rattle.records.specs.declared.TableAnswer.{TableAnswer}
-use Rattle.access.specs.Access.{ACCESS-WIDTH, accessOf, goodAccess}
-use Rattle.memw_rows.specs.MemwColumns as general
-use Rattle.memw_rows.specs.AlignedColumns as aligned
-use Rattle.memw_rows.specs.RegisterColumns as register
-use Rattle.memw_rows.specs.Rows.{memwRow, alignedRow, registerRow, regRowOf}
-use Rattle.memw.specs.Register.{REGISTER-WIDTH, goodRegister}
-use Rattle.memw.specs.declared.AccessTable.{AccessTable}
-use Rattle.memw.specs.declared.AccessTable.the-variants.{General, Aligned, Register}
-
--- numbers in a record of a table's list
-abbrev pub recordWidth : AccessTable → ℕ
-recordWidth General = ACCESS-WIDTH
-recordWidth Aligned = ACCESS-WIDTH
-recordWidth Register = REGISTER-WIDTH
+use Rattle.access.specs.Access.{accessOf, goodAccess}
+use Rattle.access.specs.Tables.{recordWidth}
+use Rattle.access.specs.declared.AccessTable.{AccessTable}
+use Rattle.access.specs.declared.AccessTable.the-variants.{General, Aligned, Register}
+use Rattle.memw.specs.MemwColumns as general
+use Rattle.memw.specs.AlignedColumns as aligned
+use Rattle.memw.specs.RegisterColumns as register
+use Rattle.memw.specs.Rows.{memwRow, alignedRow, registerRow, regRowOf}
+use Rattle.memw.specs.Register.{goodRegister}
 
 -- numbers in a row
 abbrev pub rowWidth : AccessTable → ℕ
@@ -41,12 +37,12 @@ recordRow Aligned r = alignedRow (accessOf r)
 recordRow Register r = registerRow (regRowOf r)
 
 -- a padding row
-abbrev pub paddingRow : AccessTable → List ℕ
-paddingRow t = replicate (rowWidth t) 0
+abbrev pub tablePadding : AccessTable → List ℕ
+tablePadding t = replicate (rowWidth t) 0
 
 -- row k of the table of a record list: that of record k, or padding past the last record
 abbrev pub memwRowAt : AccessTable → List ℕ → ℕ → List ℕ
-memwRowAt t records k = rowAt (recordWidth t) (recordRow t) (paddingRow t) records k
+memwRowAt t records k = rowAt (recordWidth t) (recordRow t) (tablePadding t) records k
 
 -- what the maker of a table answers, and its lent table afterwards
 unfoldable pub memwAnswer : AccessTable → ℕ → List ℕ → ℕ → TableAnswer
@@ -54,4 +50,8 @@ memwAnswer t limit records room =
     tableAnswer limit (rowWidth t) (recordCount (recordWidth t) records) (firstBad (recordWidth t) (goodRecord t) records) room
 
 unfoldable pub memwAfter : AccessTable → List ℕ → TableAnswer → List ℕ → List ℕ
-memwAfter t records answer table = tableAfter (recordWidth t) (recordRow t) (paddingRow t) records answer table
+memwAfter t records answer table = tableAfter (recordWidth t) (recordRow t) (tablePadding t) records answer table
+
+-- what a maker has to show, lent a table: `over` is the number of the refusal of more than `limit` records
+abbrev pub MemwDone : AccessTable → ℕ → ℕ → List ℕ → List ℕ → Answer → List ℕ → Type 0
+MemwDone t limit over records table = TableDone over (memwAnswer t limit records (length table)) (λ a. memwAfter t records a table)

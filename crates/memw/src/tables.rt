@@ -2,20 +2,20 @@
 // `requires` says.
 ghost use mathlib.Core.Path.{_≡_};
 ghost use lib.ListN.{length};
-ghost use Rattle.memw.specs.Tables.{recordWidth, rowWidth, goodRecord, recordRow};
+ghost use Rattle.access.specs.Tables.{recordWidth};
+ghost use Rattle.memw.specs.Tables.{rowWidth, goodRecord, recordRow};
 use crate::AccessTable;
+use crate::aligned_cols;
+use crate::cols;
+use crate::register_cols;
+use crate::rows::aligned_cells;
+use crate::rows::memw_cells;
+use crate::rows::operation;
+use crate::rows::reg_row;
+use crate::rows::register_cells;
 use access::ACCESS_WIDTH;
 use access::good_access;
 use lists::slices::put;
-use memw_rows::aligned_cols;
-use memw_rows::cols;
-use memw_rows::register_cols;
-use memw_rows::rows::REGISTER_WIDTH;
-use memw_rows::rows::aligned_cells;
-use memw_rows::rows::memw_cells;
-use memw_rows::rows::operation;
-use memw_rows::rows::reg_row;
-use memw_rows::rows::register_cells;
 use records::tables::within_limits;
 
 // The largest value of each number of a register record.
@@ -29,17 +29,6 @@ const REGISTER_LIMITS: [u64; 8] = [
     0xffff_ffff,
     1,
 ];
-
-// Numbers in a record of a table's list.
-pub fn record_width(t: AccessTable) -> usize
-    ensures { λ r. ⌜ r ≡ recordWidth t ⌝ }
-{
-    match t {
-        AccessTable::General => ACCESS_WIDTH,
-        AccessTable::Aligned => ACCESS_WIDTH,
-        AccessTable::Register => REGISTER_WIDTH,
-    }
-}
 
 // Numbers in a row.
 pub fn row_width(t: AccessTable) -> usize
@@ -76,7 +65,7 @@ pub fn write_row(t: AccessTable, row: &mut [u64], op: &[u64])
     match t {
         AccessTable::General => {
             let cells = memw_cells(operation(op));
-            put(&mut row[0..49], &cells);
+            put(&mut row[0..cols::NUM_COLUMNS], &cells);
         }
         AccessTable::Aligned => {
             let cells = aligned_cells(operation(op));

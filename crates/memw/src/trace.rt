@@ -4,12 +4,13 @@ ghost use mathlib.Core.Path.{_≡_};
 ghost use Prim.Native.Nat.{_*_, _^_, _≤_};
 ghost use lib.ListN.{length};
 ghost use Rattle.records.specs.Records.{recordCount, firstBad};
-ghost use Rattle.memw.specs.Tables.{recordWidth, rowWidth, goodRecord, memwRowAt, memwAnswer, memwAfter};
-use crate::AccessTable;
+ghost use Rattle.access.specs.Tables.{recordWidth};
+ghost use Rattle.memw.specs.Tables.{rowWidth, goodRecord, memwRowAt, memwAnswer, memwAfter};
 use crate::tables::good_record;
-use crate::tables::record_width;
 use crate::tables::row_width;
 use crate::tables::write_row;
+use access::AccessTable;
+use access::record_width;
 use lists::slices::clear;
 use records::TableAnswer;
 use records::tables::record_at;
@@ -44,7 +45,8 @@ pub fn memw_answer(t: AccessTable, limit: usize, records: &[u64], room: usize) -
 
 // Writes row k of whole records, n of them, of w numbers each: that of record k, or padding past the last record.
 fn write_row_at(t: AccessTable, records: &[u64], w: usize, n: usize, k: usize, row: &mut [u64])
-    requires { ⌜ (w ≡ recordWidth t) × (n ≡ recordCount (recordWidth t) (now records)) × (recordWidth t * n ≤ length (now records)) × (length (now row) ≡ rowWidth t) ⌝ }
+    requires { ⌜ (w ≡ recordWidth t) × (n ≡ recordCount (recordWidth t) (now records))
+        × (recordWidth t * n ≤ length (now records)) × (length (now row) ≡ rowWidth t) ⌝ }
     ensures { λ _. ⌜ now (row .exit) ≡ memwRowAt t (now (records .entry)) k ⌝ }
 {
     if k < n {
@@ -73,7 +75,8 @@ fn write_rows(t: AccessTable, records: &[u64], table: &mut [u64], rows: usize)
 pub fn make(t: AccessTable, limit: usize, records: &[u64], table: &mut [u64]) -> TableAnswer
     requires { ⌜ limit ≤ 2 ^ 20 ⌝ }
     ensures answer { λ r. ⌜ r ≡ memwAnswer t limit (now (records .entry)) (length (now (table .entry))) ⌝ }
-    ensures table { λ r. ⌜ now (table .exit) ≡ memwAfter t (now (records .entry)) (memwAnswer t limit (now (records .entry)) (length (now (table .entry)))) (now (table .entry)) ⌝ }
+    ensures table { λ r. ⌜ now (table .exit) ≡ memwAfter t (now (records .entry)) (memwAnswer t limit (now (records .entry)) (length (now (table .entry))))
+        (now (table .entry)) ⌝ }
 {
     let answer = memw_answer(t, limit, records, table.len());
     if let TableAnswer::Made { rows } = answer {

@@ -17,16 +17,18 @@ use Rattle.field.specs.Field.{addP, bitP}
 use Rattle.field.proofs.Laws.{bit-zero}
 use Rattle.access.specs.Access.{Access, WIDTH, IS-READ, accessOf, isWidth}
 use Rattle.access.proofs.Good.{by-width, good-width, good-read}
-use Rattle.memw_rows.specs.MemwColumns as general
-use Rattle.memw_rows.specs.Rows.{carries, memwRow, alignedRow, registerRow}
-use Rattle.memw.specs.Tables.{goodRecord, recordRow, paddingRow}
-use Rattle.memw.specs.declared.AccessTable.{AccessTable}
-use Rattle.memw.specs.declared.AccessTable.the-variants.{General, Aligned, Register}
+use Rattle.words.proofs.Bits.{bit-small}
+use Rattle.memw.specs.MemwColumns as general
+use Rattle.memw.specs.Rows.{carries, memwRow, alignedRow, registerRow}
+use Rattle.memw.specs.Tables.{goodRecord, recordRow, tablePadding}
+use Rattle.access.specs.declared.AccessTable.{AccessTable}
+use Rattle.access.specs.declared.AccessTable.the-variants.{General, Aligned, Register}
 use Rattle.memw.proofs.AccessTables.{register-read, every-row}
-use Rattle.memw_residues.specs.Residues.{memwFlags, flagResidue, memwResidue, alignedResidue, registerResidues, registerResidue, residueCount, tableResidue}
+use Rattle.memw_residues.specs.Residues.{memwFlags, flagResidue, memwResidue, alignedResidue, registerResidues, registerResidue}
+use Rattle.memw_residues.specs.Residues.{residueCount, tableResidue}
 use Rattle.memw_residues.specs.MadeRows.{MadeRowsZero}
 use Rattle.memw_residues.specs.declared.Flags.{Flags}
-use Rattle.memw_residues.proofs.Zero.{all-zero, all-bits, bit-small, sum-zero, FineFlags, flags-zero}
+use Rattle.memw_residues.proofs.Zero.{all-zero, all-bits, sum-zero, FineFlags, flags-zero}
 
 -- Flags
 
@@ -111,13 +113,15 @@ row-zero Register r e i h =
 no-flags : (f : Flags) → f ≡ record { «mu_read» = 0; «mu_write» = 0; write2 = 0; write4 = 0; write8 = 0 } → FineFlags f
 no-flags f e = rw e (record { one = omega arith; width = omega arith; access = omega arith })
 
-padding-zero : (t : AccessTable) (i : ℕ) → i < residueCount t → tableResidue t (paddingRow t) i ≡ 0
+padding-zero : (t : AccessTable) (i : ℕ) → i < residueCount t → tableResidue t (tablePadding t) i ≡ 0
 unfolding alignedResidue registerResidue
 padding-zero General i h =
-    memw-zero (paddingRow General) (no-flags _ refl)
-    (λ j l. rw (getD-replicate {A = ℕ} 49 (general.CARRY + j) 0 0 (omega arith)) (omega arith)) i
+    memw-zero (tablePadding General) (no-flags _ refl)
+    (λ j l. rw (getD-replicate {A = ℕ} general.COLUMNS (general.CARRY + j) 0 0 (omega arith)) (omega arith)) i
 padding-zero Aligned i h = flags-zero _ (no-flags _ refl) i
-padding-zero Register i h = all-zero (registerResidues (paddingRow Register)) (bit-zero 0 (omega arith), (bit-zero 0 (omega arith), (sum-zero 0 0 (omega arith), tt))) i
+padding-zero Register i h =
+    let zero = bit-zero 0 (omega arith) in
+    all-zero (registerResidues (tablePadding Register)) (zero, (zero, (sum-zero 0 0 (omega arith), tt))) i
 
 pub made-rows-zero : MadeRowsZero
 unfolding MadeRowsZero

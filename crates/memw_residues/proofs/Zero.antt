@@ -1,11 +1,9 @@
 -- Where residues are 0, from facts that linear arithmetic reads: flags that are bits and of which one at most is set. Assumes nothing.
 use mathlib.Core.Path.{_≡_, refl}
-use mathlib.Core.Bool.{Bool, true, false}
 use mathlib.Core.List.{List, [], _∷_}
 use Prim.Native.Nat.{ℕ, zero, suc, _+_, _≤_, _<_}
 use native.Mathlib.Omega.{arith}
 use lib.ListN.{length, getD}
-use Rattle.words.specs.Words.{bit}
 use Rattle.field.specs.Field.{addP, bitP}
 use Rattle.field.proofs.Laws.{bit-zero, addP-small}
 use Rattle.field.proofs.Bits.{implies-zero}
@@ -31,10 +29,6 @@ pub all-bits : (l : List ℕ) → AllBits l → (i : ℕ) → i < length l → g
 all-bits [] z i h = absurd (omega arith)
 all-bits (x ∷ xs) z zero h = z .0
 all-bits (x ∷ xs) z (suc i) h = all-bits xs (z .1) i (omega arith)
-
-pub bit-small : (b : Bool) → bit b < 2
-bit-small true = omega arith
-bit-small false = omega arith
 
 -- the sum of two bits that are not both 1 is a bit
 pub sum-zero : (x y : ℕ) → x + y < 2 → bitP (addP x y) ≡ 0

@@ -1,4 +1,4 @@
 pub mod Residues
-pub mod Elements
+pub mod Flags
 pub mod Answers
 pub mod MadeRows

@@ -6,7 +6,7 @@ use lib.ListN.{length}
 use Rattle.records.specs.Records.{recordAt}
 use Rattle.records.specs.declared.TableAnswer.the-variants.{Made}
 use Rattle.memw.specs.Tables.{rowWidth, memwAnswer, memwAfter}
-use Rattle.memw.specs.declared.AccessTable.{AccessTable}
+use Rattle.access.specs.declared.AccessTable.{AccessTable}
 use Rattle.memw_residues.specs.Residues.{residueCount, tableResidue}
 
 -- whatever the records and the lent table: where a table of `rows` rows is made, each residue of each of its rows is 0

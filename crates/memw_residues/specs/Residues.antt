@@ -7,11 +7,11 @@ use lib.Dec.{leb}
 use lib.ListN.{getD}
 use Rattle.lists.specs.Lists.{at}
 use Rattle.field.specs.Field.{addP, subP, mulP, bitP}
-use Rattle.memw_rows.specs.MemwColumns as general
-use Rattle.memw_rows.specs.AlignedColumns as aligned
-use Rattle.memw_rows.specs.RegisterColumns as register
-use Rattle.memw.specs.declared.AccessTable.{AccessTable}
-use Rattle.memw.specs.declared.AccessTable.the-variants.{General, Aligned, Register}
+use Rattle.memw.specs.MemwColumns as general
+use Rattle.memw.specs.AlignedColumns as aligned
+use Rattle.memw.specs.RegisterColumns as register
+use Rattle.access.specs.declared.AccessTable.{AccessTable}
+use Rattle.access.specs.declared.AccessTable.the-variants.{General, Aligned, Register}
 use Rattle.memw_residues.specs.declared.Flags.{Flags}
 
 -- the columns that both the general and the aligned table's residues read

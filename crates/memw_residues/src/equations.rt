@@ -8,11 +8,11 @@ ghost use lib.ListN.{length};
 ghost use Rattle.lists.specs.Lists.{at};
 ghost use Rattle.field.specs.Field.{p, addP, subP, mulP, bitP};
 ghost use Rattle.memw_residues.specs.Residues.{muSum, w2, flagResidue};
-ghost use Rattle.memw_residues.specs.Elements.{Elements, FlagElements};
+ghost use Rattle.memw_residues.specs.Flags.{FlagElements};
 
 // A column is a bit. Without it a multiplicity, a flag or a carry could be any element.
 pub fn bit(row: &[u64], column: usize) -> u64
-    requires { ⌜ Elements (now row) × (column < length (now row)) ⌝ }
+    requires { ⌜ (column < length (now row)) × (at (now row) column < p) ⌝ }
     ensures { λ r. ⌜ r ≡ bitP (at (now (row .entry)) column) ⌝ }
 {
     element::is_bit(row[column])

@@ -3,26 +3,23 @@
 pub mod equations;
 pub mod residues;
 
+use access::AccessTable;
 use answer::Answer;
 use answer::accept;
-use answer::refuse;
-use memw::AccessTable;
+use field::rows::RowRefusal;
+use field::rows::row_refusal_numbers;
 use residues::residue_in;
 ghost use mathlib.Core.Path.{_≡_};
 ghost use mathlib.Core.Bool.{true};
-ghost use Rattle.memw.specs.declared.AccessTable.the-variants.{General, Aligned, Register};
-ghost use Rattle.memw_residues.specs.Answers.{residueAnswer, residueNumbers};
+ghost use Rattle.access.specs.declared.AccessTable.the-variants.{General, Aligned, Register};
+ghost use Rattle.memw_residues.specs.Answers.{memwResidueAnswer, memwResidueNumbers};
 ghost use Rattle.memw_residues.specs.MadeRows.{MadeRowsZero};
 
 // A residue, or why there is none.
 pub enum MemwResidueAnswer {
     Residue(u64),
-    // 12: the table has no residue of this number
-    NoResidue,
-    // 13: the row is not of the table's width
-    NotRow,
-    // 14: a number not below p, the lowest one's index
-    NotElement { place: u64 },
+    // 12, 13, 14
+    Refused { why: RowRefusal },
 }
 
 // The columns that both the general and the aligned table's residues read.
@@ -36,34 +33,32 @@ pub struct Flags {
 
 // The residue of a row of the general table that has the given number, 0 to 14.
 pub fn memw_residue(row: &[u64], number: u64) -> MemwResidueAnswer
-    ensures answer { λ r. ⌜ residueNumbers r ≡ residueNumbers (residueAnswer General (now (row .entry)) number) ⌝ }
+    ensures answer { λ r. ⌜ memwResidueNumbers r ≡ memwResidueNumbers (memwResidueAnswer General (now (row .entry)) number) ⌝ }
 {
     residue_in(AccessTable::General, row, number)
 }
 
 // The residue of a row of the aligned table that has the given number, 0 to 7.
 pub fn memw_aligned_residue(row: &[u64], number: u64) -> MemwResidueAnswer
-    ensures answer { λ r. ⌜ residueNumbers r ≡ residueNumbers (residueAnswer Aligned (now (row .entry)) number) ⌝ }
+    ensures answer { λ r. ⌜ memwResidueNumbers r ≡ memwResidueNumbers (memwResidueAnswer Aligned (now (row .entry)) number) ⌝ }
 {
     residue_in(AccessTable::Aligned, row, number)
 }
 
 // The residue of a row of the register table that has the given number, 0 to 2.
 pub fn memw_register_residue(row: &[u64], number: u64) -> MemwResidueAnswer
-    ensures answer { λ r. ⌜ residueNumbers r ≡ residueNumbers (residueAnswer Register (now (row .entry)) number) ⌝ }
+    ensures answer { λ r. ⌜ memwResidueNumbers r ≡ memwResidueNumbers (memwResidueAnswer Register (now (row .entry)) number) ⌝ }
 {
     residue_in(AccessTable::Register, row, number)
 }
 
 // Document 01's number, place and value of an answer.
 pub fn memw_residue_numbers(a: MemwResidueAnswer) -> Answer
-    ensures { λ r. ⌜ r ≡ residueNumbers a ⌝ }
+    ensures { λ r. ⌜ r ≡ memwResidueNumbers a ⌝ }
 {
     match a {
         MemwResidueAnswer::Residue(value) => accept(value),
-        MemwResidueAnswer::NoResidue => refuse(12, 0),
-        MemwResidueAnswer::NotRow => refuse(13, 0),
-        MemwResidueAnswer::NotElement { place } => refuse(14, place),
+        MemwResidueAnswer::Refused { why } => row_refusal_numbers(why),
     }
 }
 

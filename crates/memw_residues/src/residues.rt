@@ -5,24 +5,25 @@ use crate::MemwResidueAnswer;
 use crate::equations::bit;
 use crate::equations::bit_of_sum;
 use crate::equations::flag_residue;
-use copy_residues::range::first_large;
-use memw::AccessTable;
+use access::AccessTable;
+use field::rows::RowVerdict;
+use field::rows::row_verdict;
+use memw::aligned_cols;
+use memw::cols;
+use memw::register_cols;
 use memw::tables::row_width;
-use memw_rows::aligned_cols;
-use memw_rows::cols;
-use memw_rows::register_cols;
 ghost use mathlib.Core.Path.{_≡_};
 ghost use Prim.Native.Nat.{_<_};
-ghost use lib.ListN.{length};
+ghost use Rattle.field.specs.Rows.{Elements};
 ghost use Rattle.memw.specs.Tables.{rowWidth};
-ghost use Rattle.memw.specs.declared.AccessTable.the-variants.{General, Aligned, Register};
+ghost use Rattle.access.specs.declared.AccessTable.the-variants.{General, Aligned, Register};
 ghost use Rattle.memw_residues.specs.Residues.{memwFlags, alignedFlags, memwResidue, registerResidue, residueCount, tableResidue};
-ghost use Rattle.memw_residues.specs.Elements.{Elements, FlagElements};
-ghost use Rattle.memw_residues.specs.Answers.{residueAnswer};
+ghost use Rattle.memw_residues.specs.Flags.{FlagElements};
+ghost use Rattle.memw_residues.specs.Answers.{memwResidueAnswer};
 
 // The flags of a row of the general table.
 fn memw_flags(row: &[u64]) -> Flags
-    requires { ⌜ Elements (now row) × (length (now row) ≡ rowWidth General) ⌝ }
+    requires { ⌜ Elements (rowWidth General) (now row) ⌝ }
     ensures { λ r. ⌜ (r ≡ memwFlags (now (row .entry))) × FlagElements r ⌝ }
 {
     Flags {
@@ -36,7 +37,7 @@ fn memw_flags(row: &[u64]) -> Flags
 
 // The flags of a row of the aligned table.
 fn aligned_flags(row: &[u64]) -> Flags
-    requires { ⌜ Elements (now row) × (length (now row) ≡ rowWidth Aligned) ⌝ }
+    requires { ⌜ Elements (rowWidth Aligned) (now row) ⌝ }
     ensures { λ r. ⌜ (r ≡ alignedFlags (now (row .entry))) × FlagElements r ⌝ }
 {
     Flags {
@@ -50,7 +51,7 @@ fn aligned_flags(row: &[u64]) -> Flags
 
 // The general table's residue of a number: CARRY in 4..=10, the others are those of the flags.
 fn memw_equation(row: &[u64], number: u64) -> u64
-    requires { ⌜ Elements (now row) × (length (now row) ≡ rowWidth General) × (number < residueCount General) ⌝ }
+    requires { ⌜ Elements (rowWidth General) (now row) × (number < residueCount General) ⌝ }
     ensures { λ r. ⌜ r ≡ memwResidue (now (row .entry)) number ⌝ }
 {
     match number {
@@ -62,7 +63,7 @@ fn memw_equation(row: &[u64], number: u64) -> u64
 
 // The register table's residue of a number.
 fn register_equation(row: &[u64], number: u64) -> u64
-    requires { ⌜ Elements (now row) × (length (now row) ≡ rowWidth Register) × (number < residueCount Register) ⌝ }
+    requires { ⌜ Elements (rowWidth Register) (now row) × (number < residueCount Register) ⌝ }
     ensures { λ r. ⌜ r ≡ registerResidue (now (row .entry)) number ⌝ }
 {
     match number {
@@ -74,7 +75,7 @@ fn register_equation(row: &[u64], number: u64) -> u64
 
 // A table's residue of a number.
 fn equation(t: AccessTable, row: &[u64], number: u64) -> u64
-    requires { ⌜ Elements (now row) × (length (now row) ≡ rowWidth t) × (number < residueCount t) ⌝ }
+    requires { ⌜ Elements (rowWidth t) (now row) × (number < residueCount t) ⌝ }
     ensures { λ r. ⌜ r ≡ tableResidue t (now (row .entry)) number ⌝ }
 {
     match t {
@@ -97,20 +98,10 @@ fn residue_count(t: AccessTable) -> u64
 
 // A table's residue of a number, or the first refusal that applies: 12, 13, 14.
 pub fn residue_in(t: AccessTable, row: &[u64], number: u64) -> MemwResidueAnswer
-    ensures { λ r. ⌜ r ≡ residueAnswer t (now (row .entry)) number ⌝ }
+    ensures { λ r. ⌜ r ≡ memwResidueAnswer t (now (row .entry)) number ⌝ }
 {
-    if residue_count(t) <= number {
-        return MemwResidueAnswer::NoResidue;
+    match row_verdict(number < residue_count(t), row_width(t), row) {
+        RowVerdict::Fine => MemwResidueAnswer::Residue(equation(t, row, number)),
+        RowVerdict::Refused { why } => MemwResidueAnswer::Refused { why },
     }
-    let width = row_width(t);
-    if row.len() != width {
-        return MemwResidueAnswer::NotRow;
-    }
-    let large = first_large(row);
-    if large < width {
-        return MemwResidueAnswer::NotElement {
-            place: large as u64,
-        };
-    }
-    MemwResidueAnswer::Residue(equation(t, row, number))
 }

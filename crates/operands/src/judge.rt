@@ -1,15 +1,15 @@
-// Internal to the workspace, not open to callers: refusals 12, 13 and 14 of operands, condition columns and a row, in this order. Assumes
-// nothing.
+// Internal to the workspace, not open to callers: refusal 12 of operands and condition columns, and with it 12, 13 and 14 of a row.
+// Assumes nothing.
 use crate::AddLinearTerm;
 use crate::AddOperand;
 use crate::OperandKind;
-use crate::PairFault;
 use crate::TermCell;
-use copy_residues::range::first_large;
 use copy_row::cols::NUM_COLUMNS;
+use field::rows::RowVerdict;
+use field::rows::row_verdict;
 ghost use mathlib.Core.Path.{_≡_};
 ghost use Rattle.operands.specs.Operands.{termInRow, sumInRow, operandInRow, operandsInRow, conditionsInRow};
-ghost use Rattle.operands.specs.Answers.{faultOf, pairFault};
+ghost use Rattle.operands.specs.Answers.{pairVerdict};
 
 // Whether a term's column, where it has one, is in a copy row.
 fn term_in_row(t: AddLinearTerm) -> bool
@@ -79,37 +79,19 @@ fn conditions_in_row(conditions: &[u64]) -> bool
     true
 }
 
-// The first of 12, 13 and 14 that holds, given whether all columns are in the row and no sum has more than four terms.
-pub fn fault_of(in_row: bool, row: &[u64]) -> PairFault
-    ensures { λ r. ⌜ r ≡ faultOf in_row (now (row .entry)) ⌝ }
-{
-    if !in_row {
-        return PairFault::OutsideRow;
-    }
-    if row.len() != NUM_COLUMNS {
-        return PairFault::NotRow;
-    }
-    let place = first_large(row);
-    if place < NUM_COLUMNS {
-        return PairFault::NotElement {
-            place: place as u64,
-        };
-    }
-    PairFault::Fine
-}
-
-// The same of condition columns, three operands and a row.
-pub fn pair_fault(
+// What condition columns, three operands and a row are found to be.
+pub fn pair_verdict(
     conditions: &[u64],
     lhs: AddOperand,
     rhs: AddOperand,
     sum: AddOperand,
     row: &[u64],
-) -> PairFault
-    ensures { λ r. ⌜ r ≡ pairFault (now (conditions .entry)) lhs rhs sum (now (row .entry)) ⌝ }
+) -> RowVerdict
+    ensures { λ r. ⌜ r ≡ pairVerdict (now (conditions .entry)) lhs rhs sum (now (row .entry)) ⌝ }
 {
-    fault_of(
+    row_verdict(
         conditions_in_row(conditions) & operands_in_row(lhs, rhs, sum),
+        NUM_COLUMNS,
         row,
     )
 }

@@ -4,9 +4,12 @@
 pub mod judge;
 pub mod value;
 
-use judge::fault_of;
+use copy_row::cols::NUM_COLUMNS;
+use field::rows::RowRefusal;
+use field::rows::RowVerdict;
+use field::rows::row_verdict;
 use judge::operands_in_row;
-use judge::pair_fault;
+use judge::pair_verdict;
 use value::carries;
 use value::pair_values;
 ghost use mathlib.Core.Path.{_≡_};
@@ -36,31 +39,16 @@ pub struct AddOperand {
     pub high: [TermCell; 4],
 }
 
-// The first thing that is wrong with operands, conditions and a row, in document 01's order.
-pub enum PairFault {
-    Fine,
-    // 12: a sum of more than four terms, or a column outside the row
-    OutsideRow,
-    // 13: not 41 numbers
-    NotRow,
-    // 14: a number not below p, with the index of the lowest one
-    NotElement { place: u64 },
-}
-
-// The two residues of `emit_add_pair`, or a refusal.
+// The two residues of `emit_add_pair`, or 12, 13, 14.
 pub enum PairAnswer {
     Residues { low: u64, high: u64 },
-    OutsideRow,
-    NotRow,
-    NotElement { place: u64 },
+    Refused { why: RowRefusal },
 }
 
-// The carry of `add_pair_carry_hi`, or a refusal.
+// The carry of `add_pair_carry_hi`, or 12, 13, 14.
 pub enum CarryAnswer {
     Carry(u64),
-    OutsideRow,
-    NotRow,
-    NotElement { place: u64 },
+    Refused { why: RowRefusal },
 }
 
 // c0(1 - c0) and c1(1 - c1) of lhs + rhs = sum on the row, times the sum of the condition columns if there are any.
@@ -73,18 +61,15 @@ pub fn emit_add_pair(
 ) -> PairAnswer
     ensures answer { λ r. ⌜ pairNumbers r ≡ pairNumbers (pairAnswer (now (conditions .entry)) lhs rhs sum (now (row .entry))) ⌝ }
 {
-    let found = pair_fault(conditions, lhs, rhs, sum, row);
-    match found {
-        PairFault::Fine => {
+    match pair_verdict(conditions, lhs, rhs, sum, row) {
+        RowVerdict::Fine => {
             let values = pair_values(conditions, lhs, rhs, sum, row);
             PairAnswer::Residues {
                 low: values.low,
                 high: values.high,
             }
         }
-        PairFault::OutsideRow => PairAnswer::OutsideRow,
-        PairFault::NotRow => PairAnswer::NotRow,
-        PairFault::NotElement { place } => PairAnswer::NotElement { place },
+        RowVerdict::Refused { why } => PairAnswer::Refused { why },
     }
 }
 
@@ -97,14 +82,11 @@ pub fn add_pair_carry_hi(
 ) -> CarryAnswer
     ensures answer { λ r. ⌜ carryNumbers r ≡ carryNumbers (carryAnswer lhs rhs sum (now (row .entry))) ⌝ }
 {
-    let found = fault_of(operands_in_row(lhs, rhs, sum), row);
-    match found {
-        PairFault::Fine => {
+    match row_verdict(operands_in_row(lhs, rhs, sum), NUM_COLUMNS, row) {
+        RowVerdict::Fine => {
             let c = carries(lhs, rhs, sum, row);
             CarryAnswer::Carry(c.high)
         }
-        PairFault::OutsideRow => CarryAnswer::OutsideRow,
-        PairFault::NotRow => CarryAnswer::NotRow,
-        PairFault::NotElement { place } => CarryAnswer::NotElement { place },
+        RowVerdict::Refused { why } => CarryAnswer::Refused { why },
     }
 }

@@ -15,9 +15,10 @@ ghost use mathlib.Core.Bool.{true};
 ghost use Prim.Native.Nat.{_<_};
 ghost use lib.ListN.{length};
 ghost use Rattle.field.specs.Field.{p};
+ghost use Rattle.field.specs.Rows.{Elements};
 ghost use Rattle.copy_row.specs.Columns.{COLUMNS};
-ghost use Rattle.copy_residues.specs.Cells.{Elements};
-ghost use Rattle.operands.specs.Operands.{signedP, termValue, termsValue, lowValue, highValue, termInRow, sumInRow, operandInRow, operandsInRow, conditionsInRow};
+ghost use Rattle.operands.specs.Operands.{signedP, termValue, termsValue, lowValue, highValue};
+ghost use Rattle.operands.specs.Operands.{termInRow, sumInRow, operandInRow, operandsInRow, conditionsInRow};
 ghost use Rattle.operands.specs.Pairs.{carryLo, carryHi, conditionSum, gated as gatedBy, residueLo, residueHi};
 
 // The carries c0 and c1.
@@ -72,7 +73,7 @@ fn terms_value(terms: [TermCell; 4], n: usize, row: &[u64]) -> u64
 
 // An operand's low value on a row.
 fn low_value(o: AddOperand, row: &[u64]) -> u64
-    requires { ⌜ (operandInRow o ≡ true) × Elements (now row) ⌝ }
+    requires { ⌜ (operandInRow o ≡ true) × Elements COLUMNS (now row) ⌝ }
     ensures { λ r. ⌜ (r ≡ lowValue (now (row .entry)) o) × (r < p) ⌝ }
 {
     let kind = o.kind;
@@ -87,7 +88,7 @@ fn low_value(o: AddOperand, row: &[u64]) -> u64
 
 // An operand's high value on a row.
 fn high_value(o: AddOperand, row: &[u64]) -> u64
-    requires { ⌜ (operandInRow o ≡ true) × Elements (now row) ⌝ }
+    requires { ⌜ (operandInRow o ≡ true) × Elements COLUMNS (now row) ⌝ }
     ensures { λ r. ⌜ (r ≡ highValue (now (row .entry)) o) × (r < p) ⌝ }
 {
     let kind = o.kind;
@@ -102,7 +103,7 @@ fn high_value(o: AddOperand, row: &[u64]) -> u64
 
 // Both carries of lhs + rhs = sum.
 pub fn carries(lhs: AddOperand, rhs: AddOperand, sum: AddOperand, row: &[u64]) -> CarryPair
-    requires { ⌜ (operandsInRow lhs rhs sum ≡ true) × Elements (now row) ⌝ }
+    requires { ⌜ (operandsInRow lhs rhs sum ≡ true) × Elements COLUMNS (now row) ⌝ }
     ensures low { λ r. ⌜ (r .low ≡ carryLo (now (row .entry)) lhs rhs sum) × (r .low < p) ⌝ }
     ensures high { λ r. ⌜ (r .high ≡ carryHi (now (row .entry)) lhs rhs sum) × (r .high < p) ⌝ }
 {
@@ -122,7 +123,7 @@ pub fn carries(lhs: AddOperand, rhs: AddOperand, sum: AddOperand, row: &[u64]) -
 
 // The sum of the condition columns.
 fn condition_sum(conditions: &[u64], row: &[u64]) -> u64
-    requires { ⌜ (conditionsInRow (now conditions) ≡ true) × Elements (now row) ⌝ }
+    requires { ⌜ (conditionsInRow (now conditions) ≡ true) × Elements COLUMNS (now row) ⌝ }
     ensures { λ r. ⌜ (r ≡ conditionSum (now (conditions .entry)) (now (row .entry))) × (r < p) ⌝ }
 {
     let mut total: u64 = 0;
@@ -137,7 +138,7 @@ fn condition_sum(conditions: &[u64], row: &[u64]) -> u64
 
 // x, times the sum of the condition columns if there are any.
 fn gated(conditions: &[u64], row: &[u64], x: u64) -> u64
-    requires { ⌜ (conditionsInRow (now conditions) ≡ true) × Elements (now row) × (x < p) ⌝ }
+    requires { ⌜ (conditionsInRow (now conditions) ≡ true) × Elements COLUMNS (now row) × (x < p) ⌝ }
     ensures { λ r. ⌜ (r ≡ gatedBy (now (conditions .entry)) (now (row .entry)) x) × (r < p) ⌝ }
 {
     if conditions.len() == 0 {
@@ -154,7 +155,7 @@ pub fn pair_values(
     sum: AddOperand,
     row: &[u64],
 ) -> PairValues
-    requires { ⌜ (conditionsInRow (now conditions) ≡ true) × (operandsInRow lhs rhs sum ≡ true) × Elements (now row) ⌝ }
+    requires { ⌜ (conditionsInRow (now conditions) ≡ true) × (operandsInRow lhs rhs sum ≡ true) × Elements COLUMNS (now row) ⌝ }
     ensures low { λ r. ⌜ r .low ≡ residueLo (now (conditions .entry)) (now (row .entry)) lhs rhs sum ⌝ }
     ensures high { λ r. ⌜ r .high ≡ residueHi (now (conditions .entry)) (now (row .entry)) lhs rhs sum ⌝ }
     ensures carry { λ r. ⌜ r .carry ≡ carryHi (now (row .entry)) lhs rhs sum ⌝ }

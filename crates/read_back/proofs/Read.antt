@@ -1,7 +1,7 @@
 -- What an answer that refuses nothing says of the list and of the lent buffers, and what is in them afterwards. Document 01: "Read-back
 -- checks the chain, then 9". Assumes nothing.
-use mathlib.Core.Path.{_≡_, refl, sym, ap, _∙_, subst}
-use mathlib.Core.Bool.{Bool, true, false, cond, _&&_, and-eq-true-iff}
+use mathlib.Core.Path.{_≡_, refl, ap, subst}
+use mathlib.Core.Bool.{Bool, true, false, cond, _&&_}
 use mathlib.Core.List.{List}
 use Prim.Native.Nat.{ℕ, _*_, _≤_}
 use borrow.Author.Tests.{leb-true}

@@ -7,24 +7,21 @@ use Prim.Native.Nat.{ℕ, _+_, _*_, _/_, _≤_, _<_}
 use native.Mathlib.Omega.{arith}
 use lib.ListN.{length}
 use Rattle.lists.specs.Lists.{store, oneMore, placed, picked, counted}
-use Rattle.lists.proofs.Joined.{flatMap-length, all-of}
+use Rattle.lists.proofs.All.{all-of}
+use Rattle.lists.proofs.Joined.{flatMap-length}
 use Rattle.lists.proofs.Listed.{picked-kept, kept-count}
 use Rattle.records.specs.Records.{recordCount, recordAt, recordsIn}
-use Rattle.records.proofs.Records.{record-length}
 use Rattle.records.proofs.RecordList.{each-record}
 use Rattle.copy_row.specs.Columns.{COLUMNS}
-use Rattle.plain_row.specs.Tests.{Caps}
+use Rattle.row_test.specs.Caps.{Caps}
 use Rattle.read_back.specs.Steps.{isRead, numbersOf, widthOf, rowsRead, numbersRead, RowsFit}
 
--- row k, whether it is read, and what of it
-abbrev pub rowAt : List ℕ → ℕ → List ℕ
-rowAt l k = recordAt COLUMNS l k
-
+-- whether row k is read, and what of it
 abbrev pub readAt : Bool → List ℕ → ℕ → Bool
-readAt calls l k = isRead calls (rowAt l k)
+readAt calls l k = isRead calls (recordAt COLUMNS l k)
 
 abbrev pub partAt : Bool → List ℕ → ℕ → List ℕ
-partAt calls l k = numbersOf calls (rowAt l k)
+partAt calls l k = numbersOf calls (recordAt COLUMNS l k)
 
 pub numbers-wide : (calls : Bool) (row : List ℕ) → length (numbersOf calls row) ≡ widthOf calls
 numbers-wide true row = refl
@@ -34,22 +31,19 @@ module _ (l : List ℕ) (fit : RowsFit l) where
   rows-counted : recordCount COLUMNS l ≡ length l / COLUMNS
   rows-counted = omega (arith, fit .whole)
 
-  pub row-wide : (k : ℕ) → k < length l / COLUMNS → length (rowAt l k) ≡ COLUMNS
-  row-wide k h = record-length COLUMNS l k (omega arith)
-
-  pub row-caps : (k : ℕ) → k < length l / COLUMNS → Caps (rowAt l k)
+  pub row-caps : (k : ℕ) → k < length l / COLUMNS → Caps (recordAt COLUMNS l k)
   row-caps k h = each-record COLUMNS Caps l (fit .caps) k (omega (arith, rows-counted))
 
   module _ (calls : Bool) where
     pub rows-read : length (rowsRead calls l) ≡ counted (readAt calls l) (length l / COLUMNS)
     unfolding rowsRead recordsIn
-    rows-read = kept-count (isRead calls) (rowAt l) (recordCount COLUMNS l) ∙ ap (counted (readAt calls l)) rows-counted
+    rows-read = kept-count (isRead calls) (recordAt COLUMNS l) (recordCount COLUMNS l) ∙ ap (counted (readAt calls l)) rows-counted
 
     pub numbers-read : picked (readAt calls l) (partAt calls l) (length l / COLUMNS) ≡ numbersRead calls l
     unfolding numbersRead rowsRead recordsIn
     numbers-read =
         ap (picked (readAt calls l) (partAt calls l)) (sym rows-counted)
-        ∙ picked-kept (isRead calls) (numbersOf calls) (rowAt l) (recordCount COLUMNS l)
+        ∙ picked-kept (isRead calls) (numbersOf calls) (recordAt COLUMNS l) (recordCount COLUMNS l)
 
 -- as many numbers as rows and width say
 pub numbers-length : (calls : Bool) (l : List ℕ) → length (numbersRead calls l) ≡ widthOf calls * length (rowsRead calls l)

@@ -10,7 +10,7 @@ use Rattle.call.specs.Ops.{opRecord, OP-WIDTH}
 use Rattle.call.specs.Flat.{callNumbers, CALL-WIDTH}
 use Rattle.copy_row.specs.Columns.{COLUMNS}
 use Rattle.copy_meaning.specs.ReadRow.{callAt, opAt}
-use Rattle.plain_row.specs.Tests.{Caps}
+use Rattle.row_test.specs.Caps.{Caps}
 use Rattle.chain.specs.Chain.{tableRows}
 use Rattle.read_back.specs.ReadBack.{isLive, isOpening}
 

@@ -9,7 +9,7 @@ ghost use Rattle.call.specs.Ops.{opRecord};
 ghost use Rattle.call.specs.Flat.{callNumbers};
 ghost use Rattle.copy_row.specs.Columns.{COLUMNS};
 ghost use Rattle.copy_meaning.specs.ReadRow.{callAt, opAt};
-ghost use Rattle.plain_row.specs.Tests.{Caps};
+ghost use Rattle.row_test.specs.Caps.{Caps};
 ghost use Rattle.read_back.specs.ReadBack.{roomAnswer, readBackAnswer};
 ghost use Rattle.read_back.specs.Steps.{isRead, numbersOf, widthOf, rowsRead, numbersRead, RowsFit};
 use crate::ReadBackAnswer;
@@ -21,8 +21,8 @@ use copy_row::cols;
 use copy_row::cols::NUM_COLUMNS;
 use lists::slices::one_more;
 use lists::slices::put_at;
-use plain_row::row::words_at;
 use records::tables::record_at;
+use row_test::row::words_at;
 
 // The answer for lent buffers of so many numbers.
 pub fn answer(gap: u64, rows: &[u64], ops: usize, calls: usize) -> ReadBackAnswer
@@ -97,7 +97,10 @@ fn put_row(row: &[u64], calls: bool, j: usize, out: &mut [u64]) -> usize
     requires { ⌜ (length (now row) ≡ COLUMNS) × Caps (now row) ⌝ }
     requires { ⌜ (isRead calls (now row) ≡ true → widthOf calls * j + widthOf calls ≤ length (now out)) ⌝ }
     ensures count { λ r. ⌜ r ≡ oneMore (isRead calls (now (row .entry))) j ⌝ }
-    ensures out { λ r. ⌜ now (out .exit) ≡ placed (isRead calls (now (row .entry))) (widthOf calls) j (numbersOf calls (now (row .entry))) (now (out .entry)) ⌝ }
+    ensures out { λ r. ⌜
+        now (out .exit)
+        ≡ placed (isRead calls (now (row .entry))) (widthOf calls) j (numbersOf calls (now (row .entry))) (now (out .entry))
+        ⌝ }
 {
     if !is_read(row, calls) {
         return j;

@@ -1,6 +1,6 @@
 -- Laws of the list of a list's records: one more record in front, and parts that are joined come back as they were. Assumes nothing.
 use mathlib.Core.Path.{_≡_, refl, sym, ap, subst, _∙_}
-use mathlib.Core.List.{List, [], _∷_, _++_, map, flatMap}
+use mathlib.Core.List.{List, [], _∷_, _++_, map, flatMap, append-assoc}
 use Prim.Native.Nat.{ℕ, suc, _+_, _-_, _*_, _/_, _%_, _≤_, _<_}
 use native.Mathlib.Nat.{mul-comm, mul-one, mul-suc, mul-add-div, mul-zero, zero-add, div-add-mod'}
 use native.Mathlib.Omega.{arith}
@@ -30,18 +30,23 @@ module _ (w : ℕ) (pos : 0 < w) where
   unfolding recordsIn listed
   records-none = ap (listed (recordAt w []) 0) (record-count w 0 [] pos (sym (mul-zero w)))
 
-  pub records-more : (r l : List ℕ) → length r ≡ w → recordsIn w (r ++ l) ≡ r ∷ recordsIn w l
-  unfolding recordsIn listed
-  records-more r l wide =
+  -- the first n records and one more
+  front-more : (r l : List ℕ) (n : ℕ) → length r ≡ w → listed (recordAt w (r ++ l)) 0 (suc n) ≡ r ∷ listed (recordAt w l) 0 n
+  unfolding listed
+  front-more r l n wide =
       let here : recordAt w (r ++ l) 0 ≡ r = ap (λ n. take w (drop n (r ++ l))) (mul-zero w) ∙ take-at r l w wide in
-      ap (listed (recordAt w (r ++ l)) 0) (count-shift w r l pos wide)
-      ∙ (λ i. here i ∷ listed-same (recordAt w (r ++ l)) (recordAt w l) 1 0 (recordCount w l) (λ k h. later k) i)
+      λ i. here i ∷ listed-same (recordAt w (r ++ l)) (recordAt w l) 1 0 n (λ k h. later k) i
     where
       later : (k : ℕ) → recordAt w (r ++ l) (1 + k) ≡ recordAt w l (0 + k)
       later k =
           let one : 1 + k ≡ suc k = omega arith in
           let none : k ≡ 0 + k = omega arith in
           ap (recordAt w (r ++ l)) one ∙ record-shift w r l k wide ∙ ap (recordAt w l) none
+
+  pub records-more : (r l : List ℕ) → length r ≡ w → recordsIn w (r ++ l) ≡ r ∷ recordsIn w l
+  unfolding recordsIn
+  records-more r l wide =
+      ap (listed (recordAt w (r ++ l)) 0) (count-shift w r l pos wide) ∙ front-more r l (recordCount w l) wide
 
   -- parts of w numbers, joined
   pub records-joined : {A : Type 0} (f : A → List ℕ) (xs : List A) → All (λ (x : A). length (f x) ≡ w) xs → recordsIn w (flatMap f xs) ≡ map f xs
@@ -52,6 +57,16 @@ module _ (w : ℕ) (pos : 0 < w) where
 
   pub joined-count : {A : Type 0} (f : A → List ℕ) (xs : List A) → All (λ (x : A). length (f x) ≡ w) xs → recordCount w (flatMap f xs) ≡ length xs
   joined-count f xs wide = record-count w (length xs) (flatMap f xs) pos (flatMap-length w f xs wide)
+
+  -- and with more behind them
+  pub joined-front : {A : Type 0} (f : A → List ℕ) (xs : List A) (behind : List ℕ) → All (λ (x : A). length (f x) ≡ w) xs
+      → listed (recordAt w (flatMap f xs ++ behind)) 0 (length xs) ≡ map f xs
+  unfolding flatMap listed
+  joined-front f [] behind wide = refl
+  joined-front f (x ∷ xs) behind wide =
+      ap (λ (l : List ℕ). listed (recordAt w l) 0 (suc (length xs))) (append-assoc (f x) (flatMap f xs) behind)
+      ∙ front-more (f x) (flatMap f xs ++ behind) (length xs) (wide .0)
+      ∙ ap (λ ys. f x ∷ ys) (joined-front f xs behind (wide .1))
 
   -- of a list that is whole records, each is whole
   pub records-whole : (l : List ℕ) → length l % w ≡ 0 → All (λ (r : List ℕ). length r ≡ w) (recordsIn w l)

@@ -1,7 +1,7 @@
 -- Laws of tables, for every record width, row width and limit: what a made table says of its input, what each row holds, and what
 -- a loop needs that fills a table row by row. Assumes nothing.
-use mathlib.Core.Path.{_≡_, refl, sym, ap, _∙_}
-use mathlib.Core.Logic.{_≢_, ⊎-elim}
+use mathlib.Core.Path.{_≡_, refl, ap, _∙_}
+use mathlib.Core.Logic.{⊎-elim}
 use mathlib.Core.Bool.{Bool, true, false, cond}
 use mathlib.Core.List.{List, [], _∷_, _++_, append-assoc}
 use Prim.Native.Nat.{ℕ, _+_, _-_, _*_, _≤_, _<_, zero, suc}
@@ -13,13 +13,12 @@ use lib.Dec.{ltb, leb}
 use lib.ListN.{length, take, drop}
 use native.Mathlib.Nat.{eq-or-lt-of-le, le-of-suc-le-suc}
 use lib.Seq.{take-at, drop-at}
-use Rattle.answer.proofs.Parts.{number-same, place-same, value-same}
 use Rattle.lists.specs.Lists.{store, flat}
 use Rattle.lists.proofs.Store.{length-store, store-eq}
 use Rattle.lists.proofs.Flat.{flat-length, flat-placed}
 use Rattle.records.specs.Records.{recordCount, recordAt, firstBad}
 use Rattle.records.specs.RowCount.{rowCount}
-use Rattle.records.specs.Table.{tableAnswer, rowAt, tableAfter, tableNumbers}
+use Rattle.records.specs.Table.{tableAnswer, rowAt, tableAfter}
 use Rattle.records.specs.declared.TableAnswer.{TableAnswer}
 use Rattle.records.specs.declared.TableAnswer.the-variants.{Made, TooManyRecords, BadRecord, BufferShort}
 use Rattle.records.proofs.Records.{all-good}
@@ -84,26 +83,6 @@ module _ (limit v n bad room : ℕ) where
   pub answer-made : n ≤ limit → n ≤ bad → v * rowCount n ≤ room → tableAnswer limit v n bad room ≡ Made (rowCount n)
   unfolding tableAnswer
   answer-made h b r = rw (le-ltb limit n h, le-ltb bad n b, le-leb (v * rowCount n) room r)
-
--- document 01's numbers tell all answers apart
-module _ (over : ℕ) (not-zero : over ≢ 0) (not-nine : over ≢ 9) (not-ten : over ≢ 10) where
-  pub numbers-same : (a b : TableAnswer) → tableNumbers over a ≡ tableNumbers over b → a ≡ b
-  numbers-same (Made r) (Made s) e = ap Made (value-same e)
-  numbers-same (Made r) TooManyRecords e = absurd (not-zero (sym (number-same e)))
-  numbers-same (Made r) (BadRecord k) e = absurd (omega (arith, number-same e))
-  numbers-same (Made r) BufferShort e = absurd (omega (arith, number-same e))
-  numbers-same TooManyRecords (Made s) e = absurd (not-zero (number-same e))
-  numbers-same TooManyRecords TooManyRecords e = refl
-  numbers-same TooManyRecords (BadRecord k) e = absurd (not-ten (number-same e))
-  numbers-same TooManyRecords BufferShort e = absurd (not-nine (number-same e))
-  numbers-same (BadRecord j) (Made s) e = absurd (omega (arith, number-same e))
-  numbers-same (BadRecord j) TooManyRecords e = absurd (not-ten (sym (number-same e)))
-  numbers-same (BadRecord j) (BadRecord k) e = ap BadRecord (place-same e)
-  numbers-same (BadRecord j) BufferShort e = absurd (omega (arith, number-same e))
-  numbers-same BufferShort (Made s) e = absurd (omega (arith, number-same e))
-  numbers-same BufferShort TooManyRecords e = absurd (not-nine (sym (number-same e)))
-  numbers-same BufferShort (BadRecord k) e = absurd (omega (arith, number-same e))
-  numbers-same BufferShort BufferShort e = refl
 
 -- The rows
 

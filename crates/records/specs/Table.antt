@@ -1,6 +1,7 @@
 -- A list of records becomes a table: row k of record k, padding after the last record, row k in numbers v * k to v * k + v - 1 of the
 -- lent table. Record width w, row width v, limit on the records, test of a record, row of a record and padding are parameters, so all
 -- tables share these definitions and their laws. Document 01: "tables and routing 8, 10, 11, 9". Assumes nothing.
+use mathlib.Core.Path.{_≡_}
 use Prim.Native.Nat.{ℕ, _*_}
 use mathlib.Core.Bool.{cond}
 use mathlib.Core.List.{List}
@@ -38,3 +39,8 @@ tableNumbers over (Made rows) = accepted rows
 tableNumbers over TooManyRecords = refused over 0
 tableNumbers over (BadRecord place) = refused 10 place
 tableNumbers over BufferShort = refused 9 0
+
+-- what a maker has to show: its answer in these numbers, and its lent table when it is done
+pub record TableDone (over : ℕ) (found : TableAnswer) (after : TableAnswer → List ℕ) (numbers : Answer) (table : List ℕ) : Type 0 where
+  pub answer : numbers ≡ tableNumbers over found
+  pub written : table ≡ after found

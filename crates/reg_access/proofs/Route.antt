@@ -10,11 +10,11 @@ use lib.Dec.{eqb}
 use lib.ListN.{replicate}
 use Rattle.lists.specs.Lists.{first, at}
 use Rattle.access.specs.Access.{BASE-ADDRESS, ACCESS-WIDTH}
-use Rattle.classify.specs.Classify.{lowWord, deltaInRange, isRegisterOp, stampsAgree, isAlignedOp, classify}
-use Rattle.classify.specs.RouteRecord.{addressFits}
+use Rattle.classify.specs.Classify.{lowWord, deltaInRange, isRegisterOp, stampsAgree, isAlignedOp, classify, tableOf}
+use Rattle.classify.specs.TableRecord.{addressFits}
 use Rattle.classify.specs.declared.MemwRoute.{MemwRoute}
 use Rattle.classify.specs.declared.MemwRoute.the-variants.{Register, Aligned, General}
-use Rattle.reg_access.specs.RegAccess.{built, written, pushed, routeOf, RegisterExactly}
+use Rattle.reg_access.specs.RegAccess.{built, withZeros, pushed, routeOf, RegisterExactly}
 use Rattle.reg_access.specs.declared.RegAccess.{RegAccess}
 use Rattle.reg_access.specs.declared.RegAccessAnswer.the-variants.{Pushed, BadAddress}
 
@@ -47,10 +47,12 @@ module _ (address : ℕ) (val old : List ℕ) (timestamp oldTimestamp : ℕ) (is
 -- The answer for a record of route t
 
 module _ (r : List ℕ) (t : MemwRoute) (e : classify r ≡ t) where
-  pub pushed-fits : addressFits t (at r BASE-ADDRESS) ≡ true → _≡_ {A = RegAccess} (record { answer = Pushed t; written = written t r }) (pushed r)
+  pub pushed-fits : addressFits (tableOf t) (at r BASE-ADDRESS) ≡ true
+      → _≡_ {A = RegAccess} (record { answer = Pushed t; written = withZeros (tableOf t) r }) (pushed r)
   unfolding pushed
   pushed-fits h = rw (e, h)
 
-  pub pushed-not : addressFits t (at r BASE-ADDRESS) ≡ false → _≡_ {A = RegAccess} (record { answer = BadAddress; written = replicate ACCESS-WIDTH 0 }) (pushed r)
+  pub pushed-not : addressFits (tableOf t) (at r BASE-ADDRESS) ≡ false
+      → _≡_ {A = RegAccess} (record { answer = BadAddress; written = replicate ACCESS-WIDTH 0 }) (pushed r)
   unfolding pushed
   pushed-not h = rw (e, h)

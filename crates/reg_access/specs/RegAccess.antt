@@ -4,7 +4,7 @@
 use mathlib.Core.Path.{_≡_}
 use mathlib.Core.Bool.{Bool, true, cond}
 use mathlib.Core.List.{List, _++_}
-use Prim.Native.Nat.{ℕ, _%_}
+use Prim.Native.Nat.{ℕ, _-_, _%_}
 use lib.Dec.{eqb}
 use lib.ListN.{replicate}
 use Rattle.answer.specs.Numbers.{accepted, refused}
@@ -13,8 +13,11 @@ use Rattle.lists.specs.Lists.{at}
 use Rattle.words.specs.Words.{bit}
 use Rattle.access.specs.Access.{BASE-ADDRESS, ACCESS-WIDTH, accessRecord}
 use Rattle.access.specs.RegisterAccess.{registerAccess}
-use Rattle.classify.specs.Classify.{lowWord, deltaInRange, classify, routeNumber}
-use Rattle.classify.specs.RouteRecord.{registerRecord, addressFits}
+use Rattle.access.specs.Tables.{REGISTER-WIDTH}
+use Rattle.access.specs.declared.AccessTable.{AccessTable}
+use Rattle.access.specs.declared.AccessTable.the-variants as table
+use Rattle.classify.specs.Classify.{lowWord, deltaInRange, classify, tableFor, routeNumber}
+use Rattle.classify.specs.TableRecord.{registerRecord, addressFits}
 use Rattle.classify.specs.declared.MemwRoute.{MemwRoute}
 use Rattle.classify.specs.declared.MemwRoute.the-variants.{Register, Aligned, General}
 use Rattle.reg_access.specs.declared.RegAccess.{RegAccess}
@@ -26,16 +29,16 @@ unfoldable pub built : ℕ → List ℕ → List ℕ → ℕ → ℕ → Bool �
 built address val old timestamp oldTimestamp isRead =
     accessRecord (registerAccess address val old timestamp oldTimestamp (bit isRead))
 
--- a record as its route's list has it, and zeros behind the register table's 8 numbers
-abbrev pub written : MemwRoute → List ℕ → List ℕ
-written Register r = registerRecord r ++ replicate 21 0
-written Aligned r = r
-written General r = r
+-- a record as its table's list has it, and zeros behind the register table's 8 numbers
+abbrev pub withZeros : AccessTable → List ℕ → List ℕ
+withZeros table.General r = r
+withZeros table.Aligned r = r
+withZeros table.Register r = registerRecord r ++ replicate (ACCESS-WIDTH - REGISTER-WIDTH) 0
 
 -- the answer for an access record: 11 where it goes to the register table and has no place there
 unfoldable pub pushed : List ℕ → RegAccess
 pushed r =
-    cond (addressFits (classify r) (at r BASE-ADDRESS)) (record { answer = Pushed (classify r); written = written (classify r) r })
+    cond (addressFits (tableFor r) (at r BASE-ADDRESS)) (record { answer = Pushed (classify r); written = withZeros (tableFor r) r })
     (record { answer = BadAddress; written = replicate ACCESS-WIDTH 0 })
 
 -- document 01's number, place and value of each case

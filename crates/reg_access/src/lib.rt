@@ -1,19 +1,23 @@
 // One access of a register, by its six inputs: its route and its record in the route's list. Document 01: `push_reg_access`.
 // Assumes nothing.
+use access::AccessTable;
 use access::register_access;
 use answer::Answer;
 use classify::MemwRoute;
 use classify::route::address_fits;
 use classify::route::reg_ts_delta_in_range;
+use classify::route::table_of;
 use words::bit;
 ghost use mathlib.Core.Path.{_≡_};
 ghost use mathlib.Core.List.{_++_};
+ghost use Prim.Native.Nat.{_-_};
 ghost use lib.ListN.{replicate};
 ghost use Rattle.words.specs.Words.{bit};
-ghost use Rattle.access.specs.Access.{accessRecord};
+ghost use Rattle.access.specs.Access.{ACCESS-WIDTH, accessRecord};
 ghost use Rattle.access.specs.RegisterAccess.{registerAccess};
-ghost use Rattle.classify.specs.RouteRecord.{registerRecord};
-ghost use Rattle.reg_access.specs.RegAccess.{built, routeOf, written, pushed, pushNumbers};
+ghost use Rattle.access.specs.Tables.{REGISTER-WIDTH};
+ghost use Rattle.classify.specs.TableRecord.{registerRecord};
+ghost use Rattle.reg_access.specs.RegAccess.{built, routeOf, withZeros, pushed, pushNumbers};
 
 // The route, or document 01's refusal 11.
 pub enum RegAccessAnswer {
@@ -41,8 +45,9 @@ pub fn push_reg_access(
     ensures written { λ r. ⌜ r .written ≡ pushed (built «reg_addr» val old timestamp «old_timestamp» «is_read») .written ⌝ }
 {
     let route = route_of(reg_addr, timestamp, old_timestamp);
-    if address_fits(route, reg_addr) {
-        let record = written(route, reg_addr, val, old, timestamp, old_timestamp, is_read);
+    let t = table_of(route);
+    if address_fits(t, reg_addr) {
+        let record = written(t, reg_addr, val, old, timestamp, old_timestamp, is_read);
         return RegAccess {
             answer: RegAccessAnswer::Pushed(route),
             written: record,
@@ -77,9 +82,9 @@ fn route_of(reg_addr: u64, timestamp: u64, old_timestamp: u64) -> MemwRoute
     MemwRoute::General
 }
 
-// The record in the route's list.
+// The record in the table's list.
 fn written(
-    route: MemwRoute,
+    t: AccessTable,
     reg_addr: u64,
     val: [u32; 2],
     old: [u32; 2],
@@ -87,15 +92,15 @@ fn written(
     old_timestamp: u64,
     is_read: bool,
 ) -> [u64; 29]
-    ensures { λ r. ⌜ r ≡ written route (built «reg_addr» val old timestamp «old_timestamp» «is_read») ⌝ }
+    ensures { λ r. ⌜ r ≡ withZeros t (built «reg_addr» val old timestamp «old_timestamp» «is_read») ⌝ }
 {
     let v = [val[0] as u64, val[1] as u64];
     let o = [old[0] as u64, old[1] as u64];
     let read = bit(is_read);
-    match route {
-        MemwRoute::Register => register_row(reg_addr, v, o, timestamp, old_timestamp, read),
-        MemwRoute::Aligned => register_access(reg_addr, v, o, timestamp, old_timestamp, read),
-        MemwRoute::General => register_access(reg_addr, v, o, timestamp, old_timestamp, read),
+    match t {
+        AccessTable::General => register_access(reg_addr, v, o, timestamp, old_timestamp, read),
+        AccessTable::Aligned => register_access(reg_addr, v, o, timestamp, old_timestamp, read),
+        AccessTable::Register => register_row(reg_addr, v, o, timestamp, old_timestamp, read),
     }
 }
 
@@ -108,7 +113,8 @@ fn register_row(
     old_timestamp: u64,
     is_read: u64,
 ) -> [u64; 29]
-    ensures { λ r. ⌜ r ≡ registerRecord (accessRecord (registerAccess «reg_addr» val old timestamp «old_timestamp» «is_read»)) ++ replicate 21 0 ⌝ }
+    ensures { λ r. ⌜ r ≡ registerRecord (accessRecord (registerAccess «reg_addr» val old timestamp «old_timestamp» «is_read»))
+        ++ replicate (ACCESS-WIDTH - REGISTER-WIDTH) 0 ⌝ }
 {
     [
         reg_addr / 2,

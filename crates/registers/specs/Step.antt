@@ -101,7 +101,7 @@ committed stamp src dst count s =
 
 -- a step that is refused: the state as it came, and four zero records
 abbrev pub stepRefused : StepAnswer → RegisterState → RegisterStep
-stepRefused answer s = record { answer = answer; state = s; records = replicate 116 0 }
+stepRefused answer s = record { answer = answer; state = s; records = replicate (4 * ACCESS-WIDTH) 0 }
 
 -- The whole answer: refusals 4, 5 and 6, in this order and of a Write only. Sums are plain.
 unfoldable pub registerStep : Functionality → ℕ → ℕ → ℕ → ℕ → RegisterState → RegisterStep

@@ -1,14 +1,16 @@
 // The registers that calls read and write, and the register step of one call: its access records and the state behind them. Every call
 // has an answer. Assumes nothing.
+use access::ACCESS_WIDTH;
 use access::register_access;
 use answer::Answer;
 use call::Functionality;
-use lists::slices::put;
+use lists::slices::put_at;
 use words::words;
 ghost use mathlib.Core.Path.{_≡_};
 ghost use mathlib.Core.List.{_++_};
-ghost use Prim.Native.Nat.{_+_, _-_, _^_, _≤_, _<_};
+ghost use Prim.Native.Nat.{_+_, _-_, _*_, _^_, _≤_, _<_};
 ghost use lib.ListN.{length};
+ghost use Rattle.access.specs.Access.{ACCESS-WIDTH};
 ghost use Rattle.registers.specs.Step.{newState, wrote, stepNumbers, readBack, committed, stepRefused, registerStep};
 
 // Register r holds values[r] since stamps[r]; the commit index (x254) and the program counter (x255) likewise.
@@ -195,11 +197,12 @@ fn four_records(a: [u64; 29], b: [u64; 29], c: [u64; 29], d: [u64; 29]) -> [u64;
 }
 
 fn put_four(records: &mut [u64], a: &[u64], b: &[u64], c: &[u64], d: &[u64])
-    requires { ⌜ (length (now records) ≡ 116) × (length (now a) ≡ 29) × (length (now b) ≡ 29) × (length (now c) ≡ 29) × (length (now d) ≡ 29) ⌝ }
+    requires { ⌜ (length (now records) ≡ 4 * ACCESS-WIDTH) × (length (now a) ≡ ACCESS-WIDTH) × (length (now b) ≡ ACCESS-WIDTH)
+        × (length (now c) ≡ ACCESS-WIDTH) × (length (now d) ≡ ACCESS-WIDTH) ⌝ }
     ensures { λ _. ⌜ now (records .exit) ≡ now (a .entry) ++ (now (b .entry) ++ (now (c .entry) ++ now (d .entry))) ⌝ }
 {
-    put(&mut records[0..29], a);
-    put(&mut records[29..58], b);
-    put(&mut records[58..87], c);
-    put(&mut records[87..116], d);
+    put_at(records, 0, a);
+    put_at(records, ACCESS_WIDTH, b);
+    put_at(records, 2 * ACCESS_WIDTH, c);
+    put_at(records, 3 * ACCESS_WIDTH, d);
 }

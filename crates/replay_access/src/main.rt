@@ -163,7 +163,7 @@ fn push(inputs: &[u64], before: &[u64]) {
     }
     let mut access = [0u64; 29];
     replay::load(before, &mut access);
-    let answer: Answer = exports::push_reg_access(
+    let answer: Answer = exports::flat_access::push_reg_access(
         inputs[0],
         word(inputs[1]),
         word(inputs[2]),
@@ -194,7 +194,11 @@ fn ask_push(numbers: &[u64], at: usize) -> usize
 fn start(entry_point: u64, stack_top: u64, before: &[u64]) {
     let mut state = [0u64; 68];
     replay::load(before, &mut state);
-    replay::print_answer(exports::new_register_state(entry_point, stack_top, &mut state));
+    replay::print_answer(exports::flat_registers::new_register_state(
+        entry_point,
+        stack_top,
+        &mut state,
+    ));
     print_state(&state);
 }
 
@@ -219,7 +223,7 @@ fn step(call: &[u64], before: &[u64], records_before: &[u64]) {
     replay::load(before, &mut state);
     let mut records = [0u64; 116];
     replay::load(records_before, &mut records);
-    let answer: Answer = exports::collect_copy_register_ops(
+    let answer: Answer = exports::flat_registers::collect_copy_register_ops(
         call[0],
         call[1],
         call[2],

@@ -1,4 +1,4 @@
-// Replays recorded inputs of the program `callcheck` through `call_lines::answer`. A question is 0, then the input's length and its bytes;
+// Replays recorded inputs of the program `callcheck` through `callcheck_text::answer`. A question is 0, then the input's length and its bytes;
 // 0, 0 and the output's length are printed, then the output as a list. The file stdout has the oracle's answers.
 use answer::Answer;
 ghost use lib.ListN.{length};
@@ -6,7 +6,7 @@ ghost use Prim.Native.Nat.{_≤_, _<_};
 
 fn put(input: &[u8]) {
     let mut out = [0u8; 8192];
-    let k = call_lines::answer(input, &mut out);
+    let k = callcheck_text::answer(input, &mut out);
     replay::print_answer(Answer {
         number: 0,
         place: 0,

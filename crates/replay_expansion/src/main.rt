@@ -22,7 +22,7 @@ fn expand(
     }
     let mut counts = [0u64; 2];
     replay::load(before, &mut counts);
-    let answer: Answer = exports::collect_copy_ops(
+    let answer: Answer = exports::flat_expansion::collect_copy_ops(
         call[0],
         call[1],
         call[2],

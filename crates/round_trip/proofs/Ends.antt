@@ -28,7 +28,8 @@ use Rattle.read_back.specs.ReadBack.{readBackAnswer, opsAfter, callsAfter}
 use Rattle.read_back.specs.declared.ReadBackAnswer.{ReadBackAnswer}
 use Rattle.calls_in_turn.specs.InTurn.{callsIn, allExpanded}
 use Rattle.calls_in_turn.proofs.Counted.{records-fit}
-use Rattle.round_trip.specs.Trip.{TripLent, Trip, settingOf, recordsHanded, tableMade, written, RoundTripNumbers, tripNumbers, roundTripNumbers, tripRun, tripAfter, Ended}
+use Rattle.round_trip.specs.Trip.{TripLent, Trip, settingOf, recordsHanded, tableMade, written}
+use Rattle.round_trip.specs.Trip.{RoundTripNumbers, tripNumbers, roundTripNumbers, tripRun, tripAfter, Ended}
 use Rattle.round_trip.specs.Legs.{decided, Tabled}
 use Rattle.round_trip.specs.RoundTrip.{TypedTrip}
 use Rattle.round_trip.specs.declared.RoundTripAnswer.{RoundTripAnswer}

@@ -7,16 +7,17 @@ use native.Mathlib.Omega.{arith}
 use lib.Dec.{eqb}
 use Rattle.records.specs.Records.{LIMIT}
 use Rattle.records.specs.RowCount.{rowCount}
-use Rattle.demand.specs.Demand.{Passes}
+use Rattle.whole_calls.specs.Demand.{Passes}
 use Rattle.round_trip.specs.Trip.{TripLent, Trip, written, RoundTripNumbers, tripNumbers, tripRun, tripAfter}
-use Rattle.round_trip.specs.RoundTrip.{TypedTrip, numberOf, recordsCount, rowsCount, Short, CameBack, RoundTrip}
-use Rattle.round_trip.proofs.Whole.{recordsOf, records-length, calls-length, ShortOf, Way, over, short, passed, way, trip-over, trip-short, trip-passed, by-demand, read-ops, read-calls}
+use Rattle.round_trip.specs.RoundTrip.{TypedTrip, tripNumber, recordsCount, rowsCount, Short, CameBack, RoundTrip}
+use Rattle.round_trip.proofs.Whole.{recordsAhead, records-length, calls-length, ShortOf, Way, over, short, passed, way}
+use Rattle.round_trip.proofs.Whole.{trip-over, trip-short, trip-passed, by-demand, read-ops, read-calls}
 
 module _ (t : Trip) where
-  count-is : recordsCount t ≡ recordsOf t
+  count-is : recordsCount t ≡ recordsAhead t
   count-is = omega (arith, records-length t)
 
-  rows-are : rowCount (recordsOf t) ≡ rowsCount t
+  rows-are : rowCount (recordsAhead t) ≡ rowsCount t
   rows-are = ap rowCount (sym count-is)
 
   -- a buffer that is short, by the counts and by the lists
@@ -31,18 +32,18 @@ module _ (t : Trip) where
   short-counts (inr (inr h)) = inr (inr (omega (arith, calls-length t)))
 
   module _ (typed : TypedTrip t) where
-    number : {n : RoundTripNumbers} → tripNumbers t ≡ n → numberOf t ≡ n .answer .number
+    number : {n : RoundTripNumbers} → tripNumbers t ≡ n → tripNumber t ≡ n .answer .number
     number e = ap (λ (x : RoundTripNumbers). x .answer .number) e
 
-    answers : (numberOf t ≡ 0) ⊎ (numberOf t ≡ 8) ⊎ (numberOf t ≡ 9)
+    answers : (tripNumber t ≡ 0) ⊎ (tripNumber t ≡ 8) ⊎ (tripNumber t ≡ 9)
     answers = go (way t)
       where
-        go : Way t → (numberOf t ≡ 0) ⊎ (numberOf t ≡ 8) ⊎ (numberOf t ≡ 9)
+        go : Way t → (tripNumber t ≡ 0) ⊎ (tripNumber t ≡ 8) ⊎ (tripNumber t ≡ 9)
         go (over h) = inr (inl (number (trip-over t typed h)))
         go (short few h) = inr (inr (number (trip-short t typed few h)))
         go (passed few room a b) = inl (number (trip-passed t typed few room a b))
 
-    eight-over : numberOf t ≡ 8 → LIMIT < recordsCount t
+    eight-over : tripNumber t ≡ 8 → LIMIT < recordsCount t
     eight-over e = go (way t)
       where
         go : Way t → LIMIT < recordsCount t
@@ -50,10 +51,10 @@ module _ (t : Trip) where
         go (short few h) = absurd (omega (arith, number (trip-short t typed few h)))
         go (passed few room a b) = absurd (omega (arith, number (trip-passed t typed few room a b)))
 
-    over-eight : LIMIT < recordsCount t → numberOf t ≡ 8
+    over-eight : LIMIT < recordsCount t → tripNumber t ≡ 8
     over-eight h = number (trip-over t typed (omega (arith, count-is)))
 
-    nine-short : numberOf t ≡ 9 → (recordsCount t ≤ LIMIT) × Short t
+    nine-short : tripNumber t ≡ 9 → (recordsCount t ≤ LIMIT) × Short t
     nine-short e = go (way t)
       where
         go : Way t → (recordsCount t ≤ LIMIT) × Short t
@@ -61,10 +62,10 @@ module _ (t : Trip) where
         go (short few h) = (omega (arith, count-is), short-lists h)
         go (passed few room a b) = absurd (omega (arith, number (trip-passed t typed few room a b)))
 
-    short-nine : (recordsCount t ≤ LIMIT) × Short t → numberOf t ≡ 9
+    short-nine : (recordsCount t ≤ LIMIT) × Short t → tripNumber t ≡ 9
     short-nine h = number (trip-short t typed (omega (arith, count-is, h .0)) (short-counts (h .1)))
 
-    back : numberOf t ≡ 0 → CameBack t
+    back : tripNumber t ≡ 0 → CameBack t
     unfolding tripAfter tripRun
     back e = go (way t)
       where
@@ -73,8 +74,8 @@ module _ (t : Trip) where
         go (short few h) = absurd (omega (arith, number (trip-short t typed few h)))
         go (passed few room a b) =
             let told = trip-passed t typed few room a b in
-            let rows : tripNumbers t .rows ≡ rowCount (recordsOf t) = ap (λ (x : RoundTripNumbers). x .rows) told in
-            let after : tripAfter t ≡ tripRun t (rowCount (recordsOf t)) =
+            let rows : tripNumbers t .rows ≡ rowCount (recordsAhead t) = ap (λ (x : RoundTripNumbers). x .rows) told in
+            let after : tripAfter t ≡ tripRun t (rowCount (recordsAhead t)) =
             ap (λ (x : RoundTripNumbers). cond (eqb (x .answer .number) 0) (tripRun t (x .rows)) (t .lists)) told in
             record {
               rows = rows ∙ rows-are;

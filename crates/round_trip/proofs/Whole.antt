@@ -25,7 +25,7 @@ use Rattle.expansion.specs.Tries.{lengths, Typed}
 use Rattle.copy_row.specs.Columns.{COLUMNS}
 use Rattle.copy_row.specs.Trace.{copyAnswer}
 use Rattle.copy_meaning.specs.Steps.{LiveStep}
-use Rattle.calls.proofs.Chained.{chain}
+use Rattle.call_chain.proofs.Chained.{chain}
 use Rattle.read_back.specs.ReadBack.{opsAfter, callsAfter}
 use Rattle.read_back.specs.declared.ReadBackAnswer.{ReadBackAnswer}
 use Rattle.read_back.specs.declared.ReadBackAnswer.the-variants as read
@@ -34,57 +34,58 @@ use Rattle.calls_in_turn.specs.InTurn.{callsIn}
 use Rattle.calls_in_turn.specs.Counts.{allRecords, allCalls}
 use Rattle.calls_in_turn.proofs.Counted.{records-counted, calls-counted}
 use Rattle.calls_in_turn.proofs.Typed.{calls-words, tries-typed}
-use Rattle.demand.specs.Demand.{Passes, ReadsBack}
-use Rattle.demand.proofs.Whole.{steps}
-use Rattle.demand.proofs.GoodRecords.{records-wide, maker-answer}
-use Rattle.demand.proofs.Accepted.{cutTry, tries-fit, tries-wrote}
-use Rattle.demand.proofs.Demand.{demand3}
-use Rattle.round_trip.specs.Trip.{Trip, settingOf, tries, recordsHanded, callsHanded, maker, written, reader, RoundTripNumbers, refusedBy, fromReader, onMaker, tripNumbers, roundTripNumbers}
+use Rattle.whole_calls.specs.Demand.{Passes, ReadsBack}
+use Rattle.whole_calls.proofs.Whole.{steps}
+use Rattle.whole_calls.proofs.GoodRecords.{records-wide, maker-answer}
+use Rattle.whole_calls.proofs.Accepted.{cutTry, tries-fit, tries-wrote}
+use Rattle.whole_calls.proofs.Demand.{demand3}
+use Rattle.round_trip.specs.Trip.{Trip, settingOf, tries, recordsHanded, callsHanded, maker, written, reader}
+use Rattle.round_trip.specs.Trip.{RoundTripNumbers, refusedBy, fromReader, onMaker, tripNumbers, roundTripNumbers}
 use Rattle.round_trip.specs.Legs.{decided}
 use Rattle.round_trip.specs.RoundTrip.{TypedTrip}
 use Rattle.round_trip.specs.declared.RoundTripAnswer.{RoundTripAnswer}
 use Rattle.round_trip.specs.declared.RoundTripAnswer.the-variants.{TooManyRecords, BufferShort}
 
 -- how many records and calls go in
-abbrev pub recordsOf : Trip → ℕ
-recordsOf t = allRecords (settingOf t) (callsIn (t .calls)) (lengths (t .lists .slices))
+abbrev pub recordsAhead : Trip → ℕ
+recordsAhead t = allRecords (settingOf t) (callsIn (t .calls)) (lengths (t .lists .slices))
 
-abbrev pub callsOf : Trip → ℕ
-callsOf t = allCalls (settingOf t) (callsIn (t .calls)) (lengths (t .lists .slices))
+abbrev pub callsAhead : Trip → ℕ
+callsAhead t = allCalls (settingOf t) (callsIn (t .calls)) (lengths (t .lists .slices))
 
-pub records-length : (t : Trip) → length (recordsHanded t) ≡ OP-WIDTH * recordsOf t
+pub records-length : (t : Trip) → length (recordsHanded t) ≡ OP-WIDTH * recordsAhead t
 records-length t = records-counted (settingOf t) (callsIn (t .calls)) (t .lists .slices)
 
-pub calls-length : (t : Trip) → length (callsHanded t) ≡ CALL-WIDTH * callsOf t
+pub calls-length : (t : Trip) → length (callsHanded t) ≡ CALL-WIDTH * callsAhead t
 calls-length t = calls-counted (settingOf t) (callsIn (t .calls)) (t .lists .slices)
 
 -- what is answered where nothing is refused
 abbrev pub through : Trip → RoundTripNumbers
-through t = record { answer = accepted (recordsOf t); rows = rowCount (recordsOf t); calls = callsOf t }
+through t = record { answer = accepted (recordsAhead t); rows = rowCount (recordsAhead t); calls = callsAhead t }
 
 -- a buffer is short
 abbrev pub ShortOf : Trip → Type 0
 ShortOf t =
-    (length (t .lists .table) < COLUMNS * rowCount (recordsOf t))
-    ⊎ (length (t .lists .opsBack) < OP-WIDTH * recordsOf t)
-    ⊎ (length (t .lists .callsBack) < CALL-WIDTH * callsOf t)
+    (length (t .lists .table) < COLUMNS * rowCount (recordsAhead t))
+    ⊎ (length (t .lists .opsBack) < OP-WIDTH * recordsAhead t)
+    ⊎ (length (t .lists .callsBack) < CALL-WIDTH * callsAhead t)
 
 -- the answer by counts
 abbrev pub decidedOf : Trip → RoundTripAnswer
-decidedOf t = decided (recordsOf t) (callsOf t) (length (t .lists .table)) (length (t .lists .opsBack)) (length (t .lists .callsBack))
+decidedOf t = decided (recordsAhead t) (callsAhead t) (length (t .lists .table)) (length (t .lists .opsBack)) (length (t .lists .callsBack))
 
 -- the three ways
 pub data Way (t : Trip) : Type 0 where
-  over : LIMIT < recordsOf t → Way t
-  short : recordsOf t ≤ LIMIT → ShortOf t → Way t
-  passed : recordsOf t ≤ LIMIT → COLUMNS * rowCount (recordsOf t) ≤ length (t .lists .table) → OP-WIDTH * recordsOf t ≤ length (t .lists .opsBack)
-      → CALL-WIDTH * callsOf t ≤ length (t .lists .callsBack) → Way t
+  over : LIMIT < recordsAhead t → Way t
+  short : recordsAhead t ≤ LIMIT → ShortOf t → Way t
+  passed : recordsAhead t ≤ LIMIT → COLUMNS * rowCount (recordsAhead t) ≤ length (t .lists .table) → OP-WIDTH * recordsAhead t ≤ length (t .lists .opsBack)
+      → CALL-WIDTH * callsAhead t ≤ length (t .lists .callsBack) → Way t
 
 pub way : (t : Trip) → Way t
 way t = go _ _ _ _ refl refl refl refl
   where
-    go : (x y z w : Bool) → ltb LIMIT (recordsOf t) ≡ x → leb (COLUMNS * rowCount (recordsOf t)) (length (t .lists .table)) ≡ y
-        → leb (OP-WIDTH * recordsOf t) (length (t .lists .opsBack)) ≡ z → leb (CALL-WIDTH * callsOf t) (length (t .lists .callsBack)) ≡ w → Way t
+    go : (x y z w : Bool) → ltb LIMIT (recordsAhead t) ≡ x → leb (COLUMNS * rowCount (recordsAhead t)) (length (t .lists .table)) ≡ y
+        → leb (OP-WIDTH * recordsAhead t) (length (t .lists .opsBack)) ≡ z → leb (CALL-WIDTH * callsAhead t) (length (t .lists .callsBack)) ≡ w → Way t
     go true y z w p q r s = over (ltb-true _ _ p)
     go false false z w p q r s = short (ltb-false _ _ p) (inl (leb-false _ _ q))
     go false true false w p q r s = short (ltb-false _ _ p) (inr (inl (leb-false _ _ r)))
@@ -107,7 +108,7 @@ module _ (t : Trip) (typed : TypedTrip t) where
   wrote : recordsHanded t ≡ flatMap opRecord (opsOf ks)
   wrote = tries-wrote (t .gap) (tries t) all-typed
 
-  ops-count : length (opsOf ks) ≡ recordsOf t
+  ops-count : length (opsOf ks) ≡ recordsAhead t
   ops-count =
       omega (arith, flatMap-length OP-WIDTH opRecord (opsOf ks) (records-wide (t .gap) (opsOf ks) live), ap length wrote, records-length t)
 
@@ -116,28 +117,28 @@ module _ (t : Trip) (typed : TypedTrip t) where
       cond (ltb LIMIT n) table.TooManyRecords
       (cond (leb (COLUMNS * rowCount n) (length (t .lists .table))) (table.Made (rowCount n)) table.BufferShort)
 
-  maker-is : maker t ≡ makerFor (recordsOf t)
+  maker-is : maker t ≡ makerFor (recordsAhead t)
   maker-is =
       ap (λ r. copyAnswer LIMIT r (length (t .lists .table))) wrote
       ∙ maker-answer (t .gap) LIMIT (length (t .lists .table)) (opsOf ks) live
       ∙ ap makerFor ops-count
 
-  pub trip-over : LIMIT < recordsOf t → tripNumbers t ≡ refusedBy (refused 8 0)
+  pub trip-over : LIMIT < recordsAhead t → tripNumbers t ≡ refusedBy (refused 8 0)
   unfolding tripNumbers
   trip-over h =
       let made : maker t ≡ table.TooManyRecords = maker-is ∙ rw (lt-ltb _ _ h) in
       ap (λ (a : TableAnswer). onMaker a (λ rows. fromReader rows (reader t rows))) made
 
-  module _ (few : recordsOf t ≤ LIMIT) where
-    trip-unmade : length (t .lists .table) < COLUMNS * rowCount (recordsOf t) → tripNumbers t ≡ refusedBy (refused 9 0)
+  module _ (few : recordsAhead t ≤ LIMIT) where
+    trip-unmade : length (t .lists .table) < COLUMNS * rowCount (recordsAhead t) → tripNumbers t ≡ refusedBy (refused 9 0)
     unfolding tripNumbers
     trip-unmade h =
         let made : maker t ≡ table.BufferShort = maker-is ∙ rw (le-ltb _ _ few, lt-leb _ _ h) in
         ap (λ (a : TableAnswer). onMaker a (λ rows. fromReader rows (reader t rows))) made
 
-    module _ (room : COLUMNS * rowCount (recordsOf t) ≤ length (t .lists .table)) where
+    module _ (room : COLUMNS * rowCount (recordsAhead t) ≤ length (t .lists .table)) where
       abbrev rows : ℕ
-      rows = rowCount (recordsOf t)
+      rows = rowCount (recordsAhead t)
 
       pub made : maker t ≡ table.Made rows
       made = maker-is ∙ rw (le-ltb _ _ few, le-leb _ _ room)
@@ -151,16 +152,16 @@ module _ (t : Trip) (typed : TypedTrip t) where
       unfolding tripNumbers
       on-reader a e = ap (λ (x : TableAnswer). onMaker x (λ n. fromReader n (reader t n))) made ∙ ap (fromReader rows) e
 
-      pub trip-unread : (length (t .lists .opsBack) < OP-WIDTH * recordsOf t) ⊎ (length (t .lists .callsBack) < CALL-WIDTH * callsOf t)
+      pub trip-unread : (length (t .lists .opsBack) < OP-WIDTH * recordsAhead t) ⊎ (length (t .lists .callsBack) < CALL-WIDTH * callsAhead t)
           → tripNumbers t ≡ refusedBy (refused 9 0)
       trip-unread h = on-reader read.BufferShort (by-demand .1 (t .lists .opsBack) (t .lists .callsBack) .short (go h))
         where
-          go : (length (t .lists .opsBack) < OP-WIDTH * recordsOf t) ⊎ (length (t .lists .callsBack) < CALL-WIDTH * callsOf t)
+          go : (length (t .lists .opsBack) < OP-WIDTH * recordsAhead t) ⊎ (length (t .lists .callsBack) < CALL-WIDTH * callsAhead t)
               → (length (t .lists .opsBack) < length (recordsHanded t)) ⊎ (length (t .lists .callsBack) < length (callsHanded t))
           go (inl h) = inl (omega (arith, records-length t))
           go (inr h) = inr (omega (arith, calls-length t))
 
-      module _ (a : OP-WIDTH * recordsOf t ≤ length (t .lists .opsBack)) (b : CALL-WIDTH * callsOf t ≤ length (t .lists .callsBack)) where
+      module _ (a : OP-WIDTH * recordsAhead t ≤ length (t .lists .opsBack)) (b : CALL-WIDTH * callsAhead t ≤ length (t .lists .callsBack)) where
         back : (reader t rows ≡ read.Read (length (recordsHanded t) / OP-WIDTH) (length (callsHanded t) / CALL-WIDTH))
             × (opsAfter (reader t rows) (written t rows) (t .lists .opsBack) ≡ store (t .lists .opsBack) 0 (recordsHanded t))
             × (callsAfter (reader t rows) (written t rows) (t .lists .callsBack) ≡ store (t .lists .callsBack) 0 (callsHanded t))
@@ -169,9 +170,9 @@ module _ (t : Trip) (typed : TypedTrip t) where
 
         pub trip-passed : tripNumbers t ≡ through t
         trip-passed =
-            let n : length (recordsHanded t) / OP-WIDTH ≡ recordsOf t = omega (arith, records-length t) in
-            let m : length (callsHanded t) / CALL-WIDTH ≡ callsOf t = omega (arith, calls-length t) in
-            on-reader (read.Read (recordsOf t) (callsOf t)) (back .0 ∙ rw (n, m))
+            let n : length (recordsHanded t) / OP-WIDTH ≡ recordsAhead t = omega (arith, records-length t) in
+            let m : length (callsHanded t) / CALL-WIDTH ≡ callsAhead t = omega (arith, calls-length t) in
+            on-reader (read.Read (recordsAhead t) (callsAhead t)) (back .0 ∙ rw (n, m))
 
         pub read-ops : opsAfter (reader t rows) (written t rows) (t .lists .opsBack) ≡ store (t .lists .opsBack) 0 (recordsHanded t)
         read-ops = back .1
@@ -179,17 +180,17 @@ module _ (t : Trip) (typed : TypedTrip t) where
         pub read-calls : callsAfter (reader t rows) (written t rows) (t .lists .callsBack) ≡ store (t .lists .callsBack) 0 (callsHanded t)
         read-calls = back .2
 
-  pub trip-short : recordsOf t ≤ LIMIT → ShortOf t → tripNumbers t ≡ refusedBy (refused 9 0)
+  pub trip-short : recordsAhead t ≤ LIMIT → ShortOf t → tripNumbers t ≡ refusedBy (refused 9 0)
   trip-short few (inl h) = trip-unmade few h
-  trip-short few (inr h) = go (leb (COLUMNS * rowCount (recordsOf t)) (length (t .lists .table))) refl
+  trip-short few (inr h) = go (leb (COLUMNS * rowCount (recordsAhead t)) (length (t .lists .table))) refl
     where
-      go : (x : Bool) → leb (COLUMNS * rowCount (recordsOf t)) (length (t .lists .table)) ≡ x → tripNumbers t ≡ refusedBy (refused 9 0)
+      go : (x : Bool) → leb (COLUMNS * rowCount (recordsAhead t)) (length (t .lists .table)) ≡ x → tripNumbers t ≡ refusedBy (refused 9 0)
       go true e = trip-unread few (leb-true _ _ e) h
       go false e = trip-unmade few (leb-false _ _ e)
 
   -- the answer by counts is the answer
   abbrev unmade : Bool
-  unmade = ltb (length (t .lists .table)) (COLUMNS * rowCount (recordsOf t))
+  unmade = ltb (length (t .lists .table)) (COLUMNS * rowCount (recordsAhead t))
 
   pub decided-is : roundTripNumbers (decidedOf t) ≡ tripNumbers t
   unfolding decided
@@ -203,8 +204,8 @@ module _ (t : Trip) (typed : TypedTrip t) where
       go (over h) = rw (lt-ltb _ _ h) (sym (trip-over h))
       go (short few (inl h)) = rw (le-ltb _ _ few, lt-ltb _ _ h) (sym (trip-short few (inl h)))
       go (short few (inr (inl h))) =
-          rw (le-ltb _ _ few, lt-ltb (length (t .lists .opsBack)) (OP-WIDTH * recordsOf t) h) (either unmade ∙ sym (trip-short few (inr (inl h))))
+          rw (le-ltb _ _ few, lt-ltb (length (t .lists .opsBack)) (OP-WIDTH * recordsAhead t) h) (either unmade ∙ sym (trip-short few (inr (inl h))))
       go (short few (inr (inr h))) =
-          rw (le-ltb _ _ few, lt-ltb (length (t .lists .callsBack)) (CALL-WIDTH * callsOf t) h, or-true)
+          rw (le-ltb _ _ few, lt-ltb (length (t .lists .callsBack)) (CALL-WIDTH * callsAhead t) h, or-true)
           (either unmade ∙ sym (trip-short few (inr (inr h))))
       go (passed few room a b) = rw (le-ltb _ _ few, le-ltb _ _ room, le-ltb _ _ a, le-ltb _ _ b) (sym (trip-passed few room a b))

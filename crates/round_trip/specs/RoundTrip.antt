@@ -9,9 +9,9 @@ use Rattle.records.specs.Records.{LIMIT}
 use Rattle.records.specs.RowCount.{rowCount}
 use Rattle.call.specs.Ops.{OP-WIDTH}
 use Rattle.call.specs.Flat.{CALL-WIDTH}
-use Rattle.expansion_rows.specs.Inside.{Bytes}
+use Rattle.words.specs.Words.{Bytes}
 use Rattle.copy_row.specs.Columns.{COLUMNS}
-use Rattle.demand.specs.Demand.{Passes}
+use Rattle.whole_calls.specs.Demand.{Passes}
 use Rattle.round_trip.specs.Trip.{Trip, recordsHanded, callsHanded, written, tripNumbers, tripAfter}
 
 -- what the types of the code say
@@ -20,8 +20,8 @@ pub record TypedTrip (t : Trip) : Type 0 where
   pub bytes : Bytes (t .lists .slices .bytes)
 
 -- document 01's number of the answer, how many records go in, and how many rows their table has
-abbrev pub numberOf : Trip → ℕ
-numberOf t = tripNumbers t .answer .number
+abbrev pub tripNumber : Trip → ℕ
+tripNumber t = tripNumbers t .answer .number
 
 abbrev pub recordsCount : Trip → ℕ
 recordsCount t = length (recordsHanded t) / OP-WIDTH
@@ -50,10 +50,10 @@ pub record CameBack (t : Trip) : Type 0 where
 
 pub record RoundTrip : Type 0 where
   -- the refusals are the maker's 8 and 9 and read-back's 9, and nothing else
-  pub answers : (t : Trip) → TypedTrip t → (numberOf t ≡ 0) ⊎ (numberOf t ≡ 8) ⊎ (numberOf t ≡ 9)
+  pub answers : (t : Trip) → TypedTrip t → (tripNumber t ≡ 0) ⊎ (tripNumber t ≡ 8) ⊎ (tripNumber t ≡ 9)
   -- 8 exactly if there are above 65,536 records
-  pub eight : (t : Trip) → TypedTrip t → (numberOf t ≡ 8) ↔ (LIMIT < recordsCount t)
+  pub eight : (t : Trip) → TypedTrip t → (tripNumber t ≡ 8) ↔ (LIMIT < recordsCount t)
   -- 9 exactly if there are not, and a buffer is short
-  pub nine : (t : Trip) → TypedTrip t → (numberOf t ≡ 9) ↔ ((recordsCount t ≤ LIMIT) × Short t)
+  pub nine : (t : Trip) → TypedTrip t → (tripNumber t ≡ 9) ↔ ((recordsCount t ≤ LIMIT) × Short t)
   -- otherwise what went in comes back
-  pub back : (t : Trip) → TypedTrip t → numberOf t ≡ 0 → CameBack t
+  pub back : (t : Trip) → TypedTrip t → tripNumber t ≡ 0 → CameBack t

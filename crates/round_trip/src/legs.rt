@@ -58,9 +58,18 @@ pub fn run(
     ops_back: &mut [u64],
     calls_back: &mut [u64],
 )
-    requires { ⌜ Tabled (tripOf gap (now calls) (tripLent (now bytes) (now stamps) (now ops) (now accesses) (now table) (now «ops_back») (now «calls_back»))) n rows ⌝ }
-    ensures { λ _. ⌜ tripLent (now (bytes .exit)) (now (stamps .exit)) (now (ops .exit)) (now (accesses .exit)) (now (table .exit)) (now («ops_back» .exit)) (now («calls_back» .exit))
-        ≡ tripRun (tripOf gap (now (calls .entry)) (tripLent (now (bytes .entry)) (now (stamps .entry)) (now (ops .entry)) (now (accesses .entry)) (now (table .entry)) (now («ops_back» .entry)) (now («calls_back» .entry)))) rows ⌝ }
+    requires { ⌜ Tabled
+        (tripOf gap (now calls)
+        (tripLent (now bytes) (now stamps) (now ops) (now accesses) (now table) (now «ops_back») (now «calls_back»)))
+        n rows ⌝ }
+    ensures { λ _. ⌜
+        tripLent (now (bytes .exit)) (now (stamps .exit)) (now (ops .exit)) (now (accesses .exit))
+        (now (table .exit)) (now («ops_back» .exit)) (now («calls_back» .exit))
+        ≡ tripRun
+        (tripOf gap (now (calls .entry))
+        (tripLent (now (bytes .entry)) (now (stamps .entry)) (now (ops .entry)) (now (accesses .entry))
+        (now (table .entry)) (now («ops_back» .entry)) (now («calls_back» .entry))))
+        rows ⌝ }
 {
     expand_all(gap, calls, bytes, stamps, ops, accesses);
     generate_copy_trace(&ops[0..OP_WIDTH * n], table);

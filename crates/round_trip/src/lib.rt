@@ -36,9 +36,13 @@ pub fn round_trip(
     ops_back: &mut [u64],
     calls_back: &mut [u64],
 ) -> RoundTripAnswer
-    ensures { λ r. ⌜ Ended (tripOf gap (now (calls .entry)) (tripLent (now (bytes .entry)) (now (stamps .entry)) (now (ops .entry)) (now (accesses .entry)) (now (table .entry)) (now («ops_back» .entry)) (now («calls_back» .entry))))
+    ensures { λ r. ⌜ Ended
+        (tripOf gap (now (calls .entry))
+        (tripLent (now (bytes .entry)) (now (stamps .entry)) (now (ops .entry)) (now (accesses .entry))
+        (now (table .entry)) (now («ops_back» .entry)) (now («calls_back» .entry))))
         (roundTripNumbers r)
-        (tripLent (now (bytes .exit)) (now (stamps .exit)) (now (ops .exit)) (now (accesses .exit)) (now (table .exit)) (now («ops_back» .exit)) (now («calls_back» .exit))) ⌝ }
+        (tripLent (now (bytes .exit)) (now (stamps .exit)) (now (ops .exit)) (now (accesses .exit))
+        (now (table .exit)) (now («ops_back» .exit)) (now («calls_back» .exit))) ⌝ }
 {
     let wide = gap as u64;
     let found = count(

@@ -1,62 +1,56 @@
 -- What is said of one record and of all of them, case by case, and what a list that is routed says of itself. Document 01: refusals 8,
 -- 10, 11, 9, "lowest record first, 10 before 11 in one". Assumes nothing.
 use mathlib.Core.Path.{_≡_, refl, sym, ap, _∙_, subst}
-use mathlib.Core.Bool.{Bool, true, false, cond, _&&_, and-eq-true-iff}
+use mathlib.Core.Bool.{Bool, true, false, cond, and-eq-true-iff}
 use mathlib.Core.List.{List}
-use Prim.Native.Nat.{ℕ, _-_, _*_, _≤_, _<_}
+use Prim.Native.Nat.{ℕ, _-_, _≤_, _<_}
 use native.Mathlib.Omega.{arith}
 use borrow.Author.Tests.{lt-ltb, le-ltb, ltb-false, leb-true}
-use lib.Dec.{ltb, leb}
-use Rattle.lists.specs.Lists.{store, first, at}
+use lib.Dec.{ltb}
+use Rattle.lists.specs.Lists.{first, at}
 use Rattle.records.specs.Records.{recordCount, recordAt}
 use Rattle.records.proofs.Records.{badAt, all-good, bad-stop, bad-end}
 use Rattle.access.specs.Access.{BASE-ADDRESS, ACCESS-WIDTH, goodAccess}
-use Rattle.classify.specs.Classify.{classify}
-use Rattle.classify.specs.RouteRecord.{routeWidth, addressFits}
-use Rattle.classify.specs.declared.MemwRoute.{MemwRoute}
-use Rattle.classify.specs.declared.MemwRoute.the-variants.{Register, Aligned, General}
-use Rattle.routing.specs.Routing.{routedOf, countOf, routable, firstRefused, recordRefusal, fits, routeAnswer, routeAfter}
-use Rattle.routing.specs.Steps.{verdictOf, judged, Holds}
+use Rattle.access.specs.declared.AccessTable.{AccessTable}
+use Rattle.access.specs.declared.AccessTable.the-variants.{General, Aligned, Register}
+use Rattle.classify.specs.Classify.{tableFor}
+use Rattle.classify.specs.TableRecord.{addressFits}
+use Rattle.routing.specs.Routing.{three, countIn, countOf, countsOf, routable, recordRefusal, firstRefused, fits, allFit, routed, routeAnswer}
+use Rattle.routing.specs.Steps.{routeVerdict, judged, Holds}
 use Rattle.routing.specs.declared.RouteAnswer.{RouteAnswer}
 use Rattle.routing.specs.declared.RouteAnswer.the-variants.{Routed, TooManyRecords, BadRecord, BadAddress, BufferShort}
+use Rattle.routing.specs.declared.split.Counts.{Counts}
 use Rattle.routing.specs.declared.split.Verdict.{Verdict}
 use Rattle.routing.specs.declared.split.Verdict.the-variants.{Goes, Malformed, Misplaced}
-use Rattle.routing.proofs.Routes.{count-le}
+use Rattle.routing.proofs.Routes.{by-table, count-le, Counted}
 
 -- One record
 
 module _ (r : List ℕ) where
   -- what each verdict says of it
   abbrev pub Said : Verdict → Type 0
-  Said (Goes t) = (routable r ≡ true) × (t ≡ classify r)
+  Said (Goes t) = (routable r ≡ true) × (t ≡ tableFor r)
   Said Malformed = (routable r ≡ false) × ((k : ℕ) → recordRefusal r k ≡ BadRecord k)
   Said Misplaced = (routable r ≡ false) × ((k : ℕ) → recordRefusal r k ≡ BadAddress k)
 
-  said : Said (verdictOf r)
-  unfolding verdictOf routable
+  said : Said (routeVerdict r)
+  unfolding routeVerdict routable
   said = step _ _ refl refl
     where
-      step : (a b : Bool) → goodAccess r ≡ a → addressFits (classify r) (at r BASE-ADDRESS) ≡ b
-          → Said (cond a (cond b (Goes (classify r)) Misplaced) Malformed)
+      step : (a b : Bool) → goodAccess r ≡ a → addressFits (tableFor r) (at r BASE-ADDRESS) ≡ b
+          → Said (cond a (cond b (Goes (tableFor r)) Misplaced) Malformed)
       step true true ha hb = (rw (ha, hb), refl)
       step true false ha hb = (rw (ha, hb), λ k. rw ha)
       step false b ha hb = (rw ha, λ k. rw ha)
 
-  pub verdict-said : (v : Verdict) → verdictOf r ≡ v → Said v
+  pub verdict-said : (v : Verdict) → routeVerdict r ≡ v → Said v
   verdict-said v e = subst Said e said
 
   pub routable-good : routable r ≡ true → goodAccess r ≡ true
   unfolding routable
-  routable-good e = and-eq-true-iff (goodAccess r) (addressFits (classify r) (at r BASE-ADDRESS)) .0 e .0
+  routable-good e = and-eq-true-iff (goodAccess r) (addressFits (tableFor r) (at r BASE-ADDRESS)) .0 e .0
 
--- All records
-
--- the counts of all routes
-abbrev pub counts : List ℕ → RouteAnswer
-counts l =
-    Routed (countOf Register l (recordCount ACCESS-WIDTH l)) (countOf Aligned l (recordCount ACCESS-WIDTH l)) (countOf General l (recordCount ACCESS-WIDTH l))
-
--- a loop that is at record k
+-- All records: a loop that is at record k
 
 module _ (l : List ℕ) (k : ℕ) where
   -- it stops there
@@ -68,56 +62,52 @@ module _ (l : List ℕ) (k : ℕ) where
       let z : firstRefused l ≡ k = q ∙ bad-stop ACCESS-WIDTH routable l k h refused in
       rw (z, lt-ltb k (recordCount ACCESS-WIDTH l) h) (sym e)
 
-  -- or all are passed
-  pub judged-end : recordCount ACCESS-WIDTH l ≤ k
-      → firstRefused l ≡ first (badAt ACCESS-WIDTH routable l) k (recordCount ACCESS-WIDTH l - k)
-      → counts l ≡ judged l
+  -- or all are passed, and counted
+  pub judged-end : (c : Counts) → k ≡ recordCount ACCESS-WIDTH l → Counted l c k
+      → firstRefused l ≡ first (badAt ACCESS-WIDTH routable l) k (recordCount ACCESS-WIDTH l - k) → routed c ≡ judged l
   unfolding judged
-  judged-end h q =
-      let z : firstRefused l ≡ k = q ∙ bad-end ACCESS-WIDTH routable l k h in
+  judged-end c e counted q =
+      let z : firstRefused l ≡ k = q ∙ bad-end ACCESS-WIDTH routable l k (omega arith) in
       rw (le-ltb (firstRefused l) (recordCount ACCESS-WIDTH l) (omega arith))
+      (λ i. routed (three (all Register i) (all Aligned i) (all General i)))
+    where
+      all : (t : AccessTable) → countIn t c ≡ countOf t l (recordCount ACCESS-WIDTH l)
+      all t = counted t ∙ ap (countOf t l) e
 
 -- no count is above the record count
 Bounded : List ℕ → RouteAnswer → Type 0
-Bounded l (Routed r a g) = (r ≤ recordCount ACCESS-WIDTH l) × ((a ≤ recordCount ACCESS-WIDTH l) × (g ≤ recordCount ACCESS-WIDTH l))
+Bounded l (Routed r a g) = (t : AccessTable) → countIn t (three r a g) ≤ recordCount ACCESS-WIDTH l
 Bounded l TooManyRecords = Unit {0}
 Bounded l (BadRecord k) = Unit {0}
 Bounded l (BadAddress k) = Unit {0}
 Bounded l BufferShort = Unit {0}
 
-pub judged-le : (l : List ℕ) (r a g : ℕ) → judged l ≡ Routed r a g
-    → (r ≤ recordCount ACCESS-WIDTH l) × ((a ≤ recordCount ACCESS-WIDTH l) × (g ≤ recordCount ACCESS-WIDTH l))
+pub judged-le : (l : List ℕ) (c : Counts) → judged l ≡ routed c → (t : AccessTable) → countIn t c ≤ recordCount ACCESS-WIDTH l
 unfolding judged Bounded
-judged-le l r a g e = subst (Bounded l) e (step (ltb (firstRefused l) (recordCount ACCESS-WIDTH l)) (goodAccess (recordAt ACCESS-WIDTH l (firstRefused l))))
+judged-le l c e = subst (Bounded l) e (step (ltb (firstRefused l) (recordCount ACCESS-WIDTH l)) (goodAccess (recordAt ACCESS-WIDTH l (firstRefused l))))
   where
-    step : (b good : Bool) → Bounded l (cond b (cond good (BadAddress (firstRefused l)) (BadRecord (firstRefused l))) (counts l))
+    step : (b good : Bool) → Bounded l (cond b (cond good (BadAddress (firstRefused l)) (BadRecord (firstRefused l))) (routed (countsOf l)))
     step true true = tt
     step true false = tt
-    step false good = (count-le Register l _, (count-le Aligned l _, count-le General l _))
-
--- The lent lists afterwards
-
-module _ (t : MemwRoute) (l : List ℕ) (x : RouteAnswer) (buffer : List ℕ) where
-  pub after-routed : (r a g : ℕ) → x ≡ Routed r a g → store buffer 0 (routedOf t l (recordCount ACCESS-WIDTH l)) ≡ routeAfter t l x buffer
-  unfolding routeAfter
-  after-routed r a g e = rw e
+    step false good =
+        by-table (λ t. countIn t (countsOf l) ≤ recordCount ACCESS-WIDTH l) (count-le Register l _) (count-le Aligned l _) (count-le General l _)
 
 -- The answer
 
-module _ (limit : ℕ) (l : List ℕ) (register aligned general : ℕ) where
-  pub answer-over : limit < recordCount ACCESS-WIDTH l → TooManyRecords ≡ routeAnswer limit l register aligned general
+module _ (limit : ℕ) (l : List ℕ) (rooms : Counts) where
+  pub answer-over : limit < recordCount ACCESS-WIDTH l → TooManyRecords ≡ routeAnswer limit l rooms
   unfolding routeAnswer
   answer-over h = rw (lt-ltb limit (recordCount ACCESS-WIDTH l) h)
 
   -- what the lengths of the lent lists make of the counts
   abbrev pub roomed : RouteAnswer → RouteAnswer
-  roomed (Routed r a g) = cond (leb (routeWidth Register * r) register && (leb (routeWidth Aligned * a) aligned && leb (routeWidth General * g) general)) (Routed r a g) BufferShort
+  roomed (Routed r a g) = cond (allFit (three r a g) rooms) (Routed r a g) BufferShort
   roomed TooManyRecords = TooManyRecords
   roomed (BadRecord k) = BadRecord k
   roomed (BadAddress k) = BadAddress k
   roomed BufferShort = BufferShort
 
-  pub answer-roomed : recordCount ACCESS-WIDTH l ≤ limit → roomed (judged l) ≡ routeAnswer limit l register aligned general
+  answer-roomed : recordCount ACCESS-WIDTH l ≤ limit → roomed (judged l) ≡ routeAnswer limit l rooms
   unfolding routeAnswer judged
   answer-roomed h = rw (le-ltb limit (recordCount ACCESS-WIDTH l) h) (step (ltb (firstRefused l) (recordCount ACCESS-WIDTH l)))
     where
@@ -125,61 +115,53 @@ module _ (limit : ℕ) (l : List ℕ) (register aligned general : ℕ) where
       same true k = refl
       same false k = refl
 
-      step : (b : Bool)
-          → roomed (cond b (recordRefusal (recordAt ACCESS-WIDTH l (firstRefused l)) (firstRefused l)) (counts l))
-          ≡ cond b (recordRefusal (recordAt ACCESS-WIDTH l (firstRefused l)) (firstRefused l)) (roomed (counts l))
+      step : (b : Bool) → let refused = recordRefusal (recordAt ACCESS-WIDTH l (firstRefused l)) (firstRefused l) in
+          roomed (cond b refused (routed (countsOf l))) ≡ cond b refused (roomed (routed (countsOf l)))
       step true = same (goodAccess (recordAt ACCESS-WIDTH l (firstRefused l))) (firstRefused l)
       step false = refl
 
-  pub answer-is : recordCount ACCESS-WIDTH l ≤ limit → (a : RouteAnswer) → judged l ≡ a → roomed a ≡ routeAnswer limit l register aligned general
+  pub answer-is : recordCount ACCESS-WIDTH l ≤ limit → (a : RouteAnswer) → judged l ≡ a → roomed a ≡ routeAnswer limit l rooms
   answer-is h a e = ap roomed (sym e) ∙ answer-roomed h
 
   -- a list that is routed
-  pub record RoutedFacts (r a g : ℕ) : Type 0 where
+  pub record RoutedFacts (c : Counts) : Type 0 where
     pub allowed : recordCount ACCESS-WIDTH l ≤ limit
     pub fine : recordCount ACCESS-WIDTH l ≤ firstRefused l
-    pub count-register : r ≡ countOf Register l (recordCount ACCESS-WIDTH l)
-    pub count-aligned : a ≡ countOf Aligned l (recordCount ACCESS-WIDTH l)
-    pub count-general : g ≡ countOf General l (recordCount ACCESS-WIDTH l)
-    pub holds-register : Holds Register l register
-    pub holds-aligned : Holds Aligned l aligned
-    pub holds-general : Holds General l general
+    pub counts : (t : AccessTable) → countIn t c ≡ countOf t l (recordCount ACCESS-WIDTH l)
+    pub holds : (t : AccessTable) → Holds t l rooms
 
   Facts : RouteAnswer → Type 0
-  Facts (Routed r a g) = RoutedFacts r a g
+  Facts (Routed r a g) = RoutedFacts (three r a g)
   Facts TooManyRecords = Unit {0}
   Facts (BadRecord k) = Unit {0}
   Facts (BadAddress k) = Unit {0}
   Facts BufferShort = Unit {0}
 
-  facts : Facts (routeAnswer limit l register aligned general)
+  facts : Facts (routeAnswer limit l rooms)
   unfolding Facts routeAnswer
   facts = step _ _ _ (goodAccess (recordAt ACCESS-WIDTH l (firstRefused l))) refl refl refl
     where
       step : (x y z g : Bool) → ltb limit (recordCount ACCESS-WIDTH l) ≡ x → ltb (firstRefused l) (recordCount ACCESS-WIDTH l) ≡ y
-          → fits Register l register && (fits Aligned l aligned && fits General l general) ≡ z
-          → Facts (cond x TooManyRecords (cond y (cond g (BadAddress (firstRefused l)) (BadRecord (firstRefused l))) (cond z (counts l) BufferShort)))
+          → allFit (countsOf l) rooms ≡ z
+          → let refused = cond g (BadAddress (firstRefused l)) (BadRecord (firstRefused l)) in
+          Facts (cond x TooManyRecords (cond y refused (cond z (routed (countsOf l)) BufferShort)))
       step true y z g hx hy hz = tt
       step false true z true hx hy hz = tt
       step false true z false hx hy hz = tt
       step false false false g hx hy hz = tt
       step false false true g hx hy hz =
-          let a = and-eq-true-iff (fits Register l register) (fits Aligned l aligned && fits General l general) .0 hz in
-          let b = and-eq-true-iff (fits Aligned l aligned) (fits General l general) .0 (a .1) in
+          let a = and-eq-true-iff (fits Register (countsOf l) rooms) _ .0 hz in
+          let b = and-eq-true-iff (fits Aligned (countsOf l) rooms) (fits General (countsOf l) rooms) .0 (a .1) in
           record {
             allowed = ltb-false limit (recordCount ACCESS-WIDTH l) hx;
             fine = ltb-false (firstRefused l) (recordCount ACCESS-WIDTH l) hy;
-            count-register = refl;
-            count-aligned = refl;
-            count-general = refl;
-            holds-register = leb-true _ _ (a .0);
-            holds-aligned = leb-true _ _ (b .0);
-            holds-general = leb-true _ _ (b .1);
+            counts = by-table (λ t. countIn t (countsOf l) ≡ countOf t l (recordCount ACCESS-WIDTH l)) refl refl refl;
+            holds = by-table (λ t. Holds t l rooms) (leb-true _ _ (a .0)) (leb-true _ _ (b .0)) (leb-true _ _ (b .1));
           }
 
-  pub routed-facts : (r a g : ℕ) → routeAnswer limit l register aligned general ≡ Routed r a g → RoutedFacts r a g
+  pub routed-facts : (c : Counts) → routeAnswer limit l rooms ≡ routed c → RoutedFacts c
   unfolding Facts
-  routed-facts r a g e = subst Facts e facts
+  routed-facts c e = subst Facts e facts
 
 -- where no record is refused, each is good
 pub all-routable : (l : List ℕ) → recordCount ACCESS-WIDTH l ≤ firstRefused l → (k : ℕ) → k < recordCount ACCESS-WIDTH l

@@ -1,4 +1,3 @@
-pub mod Answers
 pub mod Routes
 pub mod Judging
 pub mod Arrival

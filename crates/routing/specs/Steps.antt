@@ -1,53 +1,56 @@
--- What one record does to the counts and to the lent lists: definitions that the contracts of internal functions cite. Assumes nothing.
+-- What one record does to the counts and to the lent lists: definitions that the contracts of inner functions cite. Assumes nothing.
 use mathlib.Core.Path.{_≡_}
-use Prim.Native.Nat.{ℕ, _+_, _*_, _≤_}
+use Prim.Native.Nat.{ℕ, _+_, _*_, _^_, _≤_, _<_}
 use mathlib.Core.Bool.{true, cond}
 use mathlib.Core.List.{List}
 use lib.Dec.{ltb}
-use Rattle.lists.specs.Lists.{store, at}
+use Rattle.lists.specs.Lists.{placed, at}
 use Rattle.records.specs.Records.{recordCount, recordAt}
 use Rattle.access.specs.Access.{BASE-ADDRESS, ACCESS-WIDTH, goodAccess}
-use Rattle.classify.specs.Classify.{classify}
-use Rattle.classify.specs.RouteRecord.{routeRecord, routeWidth, addressFits}
-use Rattle.classify.specs.declared.MemwRoute.{MemwRoute}
-use Rattle.classify.specs.declared.MemwRoute.the-variants.{Register, Aligned, General}
-use Rattle.routing.specs.Routing.{sameRoute, countOf, firstRefused, recordRefusal}
+use Rattle.access.specs.Tables.{recordWidth, sameTable}
+use Rattle.access.specs.declared.AccessTable.{AccessTable}
+use Rattle.access.specs.declared.AccessTable.the-variants.{General, Aligned, Register}
+use Rattle.classify.specs.Classify.{tableFor}
+use Rattle.classify.specs.TableRecord.{tableRecord, addressFits}
+use Rattle.routing.specs.Routing.{three, countIn, Lists, listOf, countOf, countsOf, firstRefused, recordRefusal, routed, filledList}
 use Rattle.routing.specs.declared.RouteAnswer.{RouteAnswer}
-use Rattle.routing.specs.declared.RouteAnswer.the-variants.{Routed}
 use Rattle.routing.specs.declared.split.Counts.{Counts}
 use Rattle.routing.specs.declared.split.Verdict.{Verdict}
 use Rattle.routing.specs.declared.split.Verdict.the-variants.{Goes, Malformed, Misplaced}
 
--- what is said of a record: refused with 10, refused with 11, or its route
-unfoldable pub verdictOf : List ℕ → Verdict
-verdictOf r = cond (goodAccess r) (cond (addressFits (classify r) (at r BASE-ADDRESS)) (Goes (classify r)) Misplaced) Malformed
+-- what is said of a record: refused with 10, refused with 11, or its table
+unfoldable pub routeVerdict : List ℕ → Verdict
+routeVerdict r = cond (goodAccess r) (cond (addressFits (tableFor r) (at r BASE-ADDRESS)) (Goes (tableFor r)) Misplaced) Malformed
 
 -- the refusal of the lowest record that is refused, or the counts
 unfoldable pub judged : List ℕ → RouteAnswer
 judged l =
     cond (ltb (firstRefused l) (recordCount ACCESS-WIDTH l)) (recordRefusal (recordAt ACCESS-WIDTH l (firstRefused l)) (firstRefused l))
-    (Routed (countOf Register l (recordCount ACCESS-WIDTH l)) (countOf Aligned l (recordCount ACCESS-WIDTH l)) (countOf General l (recordCount ACCESS-WIDTH l)))
+    (routed (countsOf l))
 
--- the count of a route
-abbrev pub countIn : MemwRoute → Counts → ℕ
-countIn Register c = c .register
-countIn Aligned c = c .aligned
-countIn General c = c .general
+-- one record more for table t
+abbrev pub withOne : AccessTable → Counts → Counts
+withOne General c = three (c .register) (c .aligned) (c .general + 1)
+withOne Aligned c = three (c .register) (c .aligned + 1) (c .general)
+withOne Register c = three (c .register + 1) (c .aligned) (c .general)
 
--- one record more of route t
-abbrev pub oneMore : MemwRoute → Counts → Counts
-oneMore Register c = record { register = c .register + 1; aligned = c .aligned; general = c .general }
-oneMore Aligned c = record { register = c .register; aligned = c .aligned + 1; general = c .general }
-oneMore General c = record { register = c .register; aligned = c .aligned; general = c .general + 1 }
+-- few enough that one more can be counted
+abbrev pub Few : Counts → Type 0
+Few c = (t : AccessTable) → countIn t c < 2 ^ 20
 
--- the lent list of route t after record r, with so many records in it before
-abbrev pub placed : MemwRoute → List ℕ → Counts → List ℕ → List ℕ
-placed t r c buffer = cond (sameRoute t (classify r)) (store buffer (routeWidth t * countIn t c) (routeRecord t r)) buffer
-
--- record r fits behind them in a lent list of `room` numbers, if it goes there
-abbrev pub RoomFor : MemwRoute → List ℕ → Counts → ℕ → Type 0
-RoomFor t r c room = sameRoute t (classify r) ≡ true → routeWidth t * countIn t c + routeWidth t ≤ room
+-- record r fits into the list of table t behind the c there are, if it goes there
+abbrev pub RoomFor : AccessTable → List ℕ → Counts → Counts → Type 0
+RoomFor t r c rooms = sameTable t (tableFor r) ≡ true → recordWidth t * countIn t c + recordWidth t ≤ countIn t rooms
 
 -- all that goes there fits
-abbrev pub Holds : MemwRoute → List ℕ → ℕ → Type 0
-Holds t l room = routeWidth t * countOf t l (recordCount ACCESS-WIDTH l) ≤ room
+abbrev pub Holds : AccessTable → List ℕ → Counts → Type 0
+Holds t l rooms = recordWidth t * countOf t l (recordCount ACCESS-WIDTH l) ≤ countIn t rooms
+
+-- record r was put behind the c that each list had
+pub record Put (r : List ℕ) (c : Counts) (before after : Lists) (later : Counts) : Type 0 where
+  pub counts : later ≡ withOne (tableFor r) c
+  pub lists : (t : AccessTable) → listOf t after ≡ placed (sameTable t (tableFor r)) (recordWidth t) (countIn t c) (tableRecord t r) (listOf t before)
+
+-- all records were
+abbrev pub Written : List ℕ → Lists → Lists → Type 0
+Written l before after = (t : AccessTable) → listOf t after ≡ filledList t l before

@@ -2,10 +2,10 @@
 // Assumes nothing.
 pub mod split;
 
+use records::LIMIT;
 ghost use mathlib.Core.Path.{_≡_};
-ghost use lib.ListN.{length};
-ghost use Rattle.classify.specs.declared.MemwRoute.the-variants.{Register, Aligned, General};
-ghost use Rattle.routing.specs.Routing.{routeAnswer, routeAfter, routeNumbers};
+ghost use Rattle.records.specs.Records.{LIMIT};
+ghost use Rattle.routing.specs.Routing.{lists, routeNumbers, RouteDone};
 
 // One case for each answer of routing: how many records each list got, or document 01's refusals 8, 10, 11 and 9.
 pub enum RouteAnswer {
@@ -42,12 +42,11 @@ pub fn route_accesses(
     aligned: &mut [u64],
     general: &mut [u64],
 ) -> RouteAnswer
-    ensures answer { λ r. ⌜ routeNumbers 8 r ≡ routeNumbers 8 (routeAnswer 65536 (now (accesses .entry)) (length (now (register .entry))) (length (now (aligned .entry))) (length (now (general .entry)))) ⌝ }
-    ensures register { λ r. ⌜ now (register .exit) ≡ routeAfter Register (now (accesses .entry)) (routeAnswer 65536 (now (accesses .entry)) (length (now (register .entry))) (length (now (aligned .entry))) (length (now (general .entry)))) (now (register .entry)) ⌝ }
-    ensures aligned { λ r. ⌜ now (aligned .exit) ≡ routeAfter Aligned (now (accesses .entry)) (routeAnswer 65536 (now (accesses .entry)) (length (now (register .entry))) (length (now (aligned .entry))) (length (now (general .entry)))) (now (aligned .entry)) ⌝ }
-    ensures general { λ r. ⌜ now (general .exit) ≡ routeAfter General (now (accesses .entry)) (routeAnswer 65536 (now (accesses .entry)) (length (now (register .entry))) (length (now (aligned .entry))) (length (now (general .entry)))) (now (general .entry)) ⌝ }
+    ensures { λ r. ⌜ RouteDone LIMIT 8 (now (accesses .entry))
+        (lists (now (register .entry)) (now (aligned .entry)) (now (general .entry)))
+        (routeNumbers 8 r) (lists (now (register .exit)) (now (aligned .exit)) (now (general .exit))) ⌝ }
 {
-    split::route(65536, accesses, register, aligned, general)
+    split::route(LIMIT, accesses, register, aligned, general)
 }
 
 // Document 01's number and place of an answer, and its counts; `over` is the number of the refusal of too many records.

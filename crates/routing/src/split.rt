@@ -2,38 +2,36 @@
 // records, a second one writes them. Assumes nothing but what each `requires` says.
 use crate::RouteAnswer;
 use access::ACCESS_WIDTH;
+use access::AccessTable;
 use access::BASE_ADDRESS;
+use access::REGISTER_WIDTH;
 use access::good_access;
-use classify::MemwRoute;
-use classify::REGISTER_WIDTH;
 use classify::route::address_fits;
 use classify::route::classify;
 use classify::route::register_record;
-use lists::slices::put;
+use classify::route::table_of;
+use lists::slices::put_at;
 use records::tables::record_at;
 use records::tables::record_count;
 ghost use mathlib.Core.Path.{_≡_};
 ghost use mathlib.Core.Bool.{true};
-ghost use Prim.Native.Nat.{ℕ, _+_, _*_, _^_, _≤_, _<_};
-ghost use lib.ListN.{length};
-ghost use Rattle.lists.specs.Lists.{store};
+ghost use Prim.Native.Nat.{ℕ, _^_, _≤_, _<_};
 ghost use Rattle.records.specs.Records.{recordCount, recordAt};
-ghost use Rattle.access.specs.Access.{goodAccess};
-ghost use Rattle.classify.specs.Classify.{classify};
-ghost use Rattle.classify.specs.declared.MemwRoute.the-variants.{Register, Aligned, General};
-ghost use Rattle.routing.specs.Routing.{routedOf, routeAnswer, routeAfter};
-ghost use Rattle.routing.specs.Steps.{verdictOf, judged, oneMore, placed, RoomFor, Holds};
+ghost use Rattle.access.specs.Access.{ACCESS-WIDTH, goodAccess};
+ghost use Rattle.access.specs.declared.AccessTable.{AccessTable};
+ghost use Rattle.routing.specs.Routing.{three, lists, roomsOf, routeAnswer, listsAfter};
+ghost use Rattle.routing.specs.Steps.{routeVerdict, judged, withOne, Few, RoomFor, Holds, Put, Written};
 
-// How many records went to each list.
+// A number for each list: how many records went there, or how long it is.
 pub struct Counts {
     pub register: usize,
     pub aligned: usize,
     pub general: usize,
 }
 
-// What is said of one record: its route, or refusal 10 or 11.
+// What is said of one record: the table that takes it, or refusal 10 or 11.
 pub enum Verdict {
-    Goes(MemwRoute),
+    Goes(AccessTable),
     Malformed,
     Misplaced,
 }
@@ -47,10 +45,10 @@ pub fn route(
     general: &mut [u64],
 ) -> RouteAnswer
     requires { ⌜ limit ≤ 2 ^ 20 ⌝ }
-    ensures answer { λ r. ⌜ r ≡ routeAnswer limit (now (accesses .entry)) (length (now (register .entry))) (length (now (aligned .entry))) (length (now (general .entry))) ⌝ }
-    ensures register { λ r. ⌜ now (register .exit) ≡ routeAfter Register (now (accesses .entry)) r (now (register .entry)) ⌝ }
-    ensures aligned { λ r. ⌜ now (aligned .exit) ≡ routeAfter Aligned (now (accesses .entry)) r (now (aligned .entry)) ⌝ }
-    ensures general { λ r. ⌜ now (general .exit) ≡ routeAfter General (now (accesses .entry)) r (now (general .entry)) ⌝ }
+    ensures answer { λ r. ⌜ r ≡ routeAnswer limit (now (accesses .entry))
+        (roomsOf (lists (now (register .entry)) (now (aligned .entry)) (now (general .entry)))) ⌝ }
+    ensures lists { λ r. ⌜ lists (now (register .exit)) (now (aligned .exit)) (now (general .exit))
+        ≡ listsAfter (now (accesses .entry)) r (lists (now (register .entry)) (now (aligned .entry)) (now (general .entry))) ⌝ }
 {
     let answer = route_answer(
         limit,
@@ -84,7 +82,7 @@ fn route_answer(
     general: usize,
 ) -> RouteAnswer
     requires { ⌜ limit ≤ 2 ^ 20 ⌝ }
-    ensures { λ r. ⌜ r ≡ routeAnswer limit (now (accesses .entry)) register aligned general ⌝ }
+    ensures { λ r. ⌜ r ≡ routeAnswer limit (now (accesses .entry)) (three register aligned general) ⌝ }
 {
     let n = record_count(accesses, ACCESS_WIDTH);
     if limit < n {
@@ -113,7 +111,7 @@ fn route_answer(
 
 // The lowest record that is refused, or how many records go to each list.
 fn judge(accesses: &[u64], n: usize) -> RouteAnswer
-    requires { ⌜ (n ≡ recordCount 29 (now accesses)) × (n ≤ 2 ^ 20) ⌝ }
+    requires { ⌜ (n ≡ recordCount ACCESS-WIDTH (now accesses)) × (n ≤ 2 ^ 20) ⌝ }
     ensures { λ r. ⌜ r ≡ judged (now (accesses .entry)) ⌝ }
 {
     let mut counts = Counts {
@@ -125,8 +123,8 @@ fn judge(accesses: &[u64], n: usize) -> RouteAnswer
     while k < n {
         let verdict = verdict_of(record_at(accesses, ACCESS_WIDTH, k));
         match verdict {
-            Verdict::Goes(route) => {
-                counts = one_more(route, counts);
+            Verdict::Goes(t) => {
+                counts = one_more(t, counts);
             }
             Verdict::Malformed => {
                 return RouteAnswer::BadRecord { place: k };
@@ -146,49 +144,49 @@ fn judge(accesses: &[u64], n: usize) -> RouteAnswer
 
 // What is said of one record: 10 before 11.
 fn verdict_of(op: &[u64]) -> Verdict
-    ensures { λ r. ⌜ r ≡ verdictOf (now (op .entry)) ⌝ }
+    ensures { λ r. ⌜ r ≡ routeVerdict (now (op .entry)) ⌝ }
 {
     if !good_access(op) {
         return Verdict::Malformed;
     }
-    let route = classify(op);
-    if address_fits(route, op[BASE_ADDRESS]) {
-        return Verdict::Goes(route);
+    let t = table_of(classify(op));
+    if address_fits(t, op[BASE_ADDRESS]) {
+        return Verdict::Goes(t);
     }
     Verdict::Misplaced
 }
 
-// One record more of a route.
-fn one_more(route: MemwRoute, counts: Counts) -> Counts
-    requires { ⌜ (counts .register < 2 ^ 20) × ((counts .aligned < 2 ^ 20) × (counts .general < 2 ^ 20)) ⌝ }
-    ensures { λ r. ⌜ r ≡ oneMore route counts ⌝ }
+// One record more for a table.
+fn one_more(t: AccessTable, counts: Counts) -> Counts
+    requires { ⌜ Few counts ⌝ }
+    ensures { λ r. ⌜ r ≡ withOne t counts ⌝ }
 {
-    match route {
-        MemwRoute::Register => Counts {
-            register: counts.register + 1,
+    match t {
+        AccessTable::General => Counts {
+            register: counts.register,
             aligned: counts.aligned,
-            general: counts.general,
+            general: counts.general + 1,
         },
-        MemwRoute::Aligned => Counts {
+        AccessTable::Aligned => Counts {
             register: counts.register,
             aligned: counts.aligned + 1,
             general: counts.general,
         },
-        MemwRoute::General => Counts {
-            register: counts.register,
+        AccessTable::Register => Counts {
+            register: counts.register + 1,
             aligned: counts.aligned,
-            general: counts.general + 1,
+            general: counts.general,
         },
     }
 }
 
 // Writes every record behind those that went to the same list before.
 fn write_routes(accesses: &[u64], register: &mut [u64], aligned: &mut [u64], general: &mut [u64])
-    requires { ⌜ (recordCount 29 (now accesses) ≤ 2 ^ 20) × ((k : ℕ) → k < recordCount 29 (now accesses) → goodAccess (recordAt 29 (now accesses) k) ≡ true) ⌝ }
-    requires { ⌜ (Holds Register (now accesses) (length (now register))) × ((Holds Aligned (now accesses) (length (now aligned))) × (Holds General (now accesses) (length (now general)))) ⌝ }
-    ensures register { λ _. ⌜ now (register .exit) ≡ store (now (register .entry)) 0 (routedOf Register (now (accesses .entry)) (recordCount 29 (now (accesses .entry)))) ⌝ }
-    ensures aligned { λ _. ⌜ now (aligned .exit) ≡ store (now (aligned .entry)) 0 (routedOf Aligned (now (accesses .entry)) (recordCount 29 (now (accesses .entry)))) ⌝ }
-    ensures general { λ _. ⌜ now (general .exit) ≡ store (now (general .entry)) 0 (routedOf General (now (accesses .entry)) (recordCount 29 (now (accesses .entry)))) ⌝ }
+    requires { ⌜ (recordCount ACCESS-WIDTH (now accesses) ≤ 2 ^ 20)
+        × ((k : ℕ) → k < recordCount ACCESS-WIDTH (now accesses) → goodAccess (recordAt ACCESS-WIDTH (now accesses) k) ≡ true)
+        × ((t : AccessTable) → Holds t (now accesses) (roomsOf (lists (now register) (now aligned) (now general)))) ⌝ }
+    ensures { λ _. ⌜ Written (now (accesses .entry)) (lists (now (register .entry)) (now (aligned .entry)) (now (general .entry)))
+        (lists (now (register .exit)) (now (aligned .exit)) (now (general .exit))) ⌝ }
 {
     let n = record_count(accesses, ACCESS_WIDTH);
     let mut ends = Counts {
@@ -212,31 +210,25 @@ fn put_access(
     aligned: &mut [u64],
     general: &mut [u64],
 ) -> Counts
-    requires { ⌜ goodAccess (now op) ≡ true ⌝ }
-    requires { ⌜ (RoomFor Register (now op) ends (length (now register))) × ((RoomFor Aligned (now op) ends (length (now aligned))) × (RoomFor General (now op) ends (length (now general)))) ⌝ }
-    requires { ⌜ (ends .register < 2 ^ 20) × ((ends .aligned < 2 ^ 20) × (ends .general < 2 ^ 20)) ⌝ }
-    ensures counts { λ r. ⌜ r ≡ oneMore (classify (now (op .entry))) ends ⌝ }
-    ensures register { λ r. ⌜ now (register .exit) ≡ placed Register (now (op .entry)) ends (now (register .entry)) ⌝ }
-    ensures aligned { λ r. ⌜ now (aligned .exit) ≡ placed Aligned (now (op .entry)) ends (now (aligned .entry)) ⌝ }
-    ensures general { λ r. ⌜ now (general .exit) ≡ placed General (now (op .entry)) ends (now (general .entry)) ⌝ }
+    requires { ⌜ (goodAccess (now op) ≡ true) × Few ends
+        × ((t : AccessTable) → RoomFor t (now op) ends (roomsOf (lists (now register) (now aligned) (now general)))) ⌝ }
+    ensures { λ r. ⌜ Put (now (op .entry)) ends (lists (now (register .entry)) (now (aligned .entry)) (now (general .entry)))
+        (lists (now (register .exit)) (now (aligned .exit)) (now (general .exit))) r ⌝ }
 {
-    let route = classify(op);
-    match route {
-        MemwRoute::Register => {
-            let at = REGISTER_WIDTH * ends.register;
+    let t = table_of(classify(op));
+    match t {
+        AccessTable::General => {
+            put_at(general, ACCESS_WIDTH * ends.general, op);
+            one_more(t, ends)
+        }
+        AccessTable::Aligned => {
+            put_at(aligned, ACCESS_WIDTH * ends.aligned, op);
+            one_more(t, ends)
+        }
+        AccessTable::Register => {
             let record = register_record(op);
-            put(&mut register[at..at + REGISTER_WIDTH], &record);
-            one_more(route, ends)
-        }
-        MemwRoute::Aligned => {
-            let at = ACCESS_WIDTH * ends.aligned;
-            put(&mut aligned[at..at + ACCESS_WIDTH], op);
-            one_more(route, ends)
-        }
-        MemwRoute::General => {
-            let at = ACCESS_WIDTH * ends.general;
-            put(&mut general[at..at + ACCESS_WIDTH], op);
-            one_more(route, ends)
+            put_at(register, REGISTER_WIDTH * ends.register, &record);
+            one_more(t, ends)
         }
     }
 }

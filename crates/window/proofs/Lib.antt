@@ -1,3 +1,4 @@
 pub mod Window
 pub mod SingleCells
+pub mod Bytes
 pub mod Computing

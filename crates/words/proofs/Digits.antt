@@ -5,31 +5,29 @@ use mathlib.Core.List.{List, [], _∷_}
 use Prim.Native.Nat.{ℕ, zero, suc, _+_, _*_, _/_, _%_, _^_, _<_}
 use native.Mathlib.Nat.{mul-suc, mul-zero, mul-comm, add-comm, mod-one, mod-lt, mod-eq-of-lt, div-div-eq-div-mul}
 use native.Mathlib.Omega.{arith}
-use lib.ListN.{length, getD}
+use lib.ListN.{length, getD, replicate}
 use lib.Arith.{digits-lt}
 use lib.Pow.{pow-pos, pow-add}
-use Rattle.words.specs.Words.{digits, number, words, halves, bytes}
+use Rattle.lists.proofs.All.{all-replicate, each-of, of-each}
+use Rattle.words.specs.Words.{digits, number, Below, words, halves, bytes}
 use Rattle.words.proofs.Limbs.{mod-mul, low-limb, high-limb, Two, Four}
-
--- each digit has w bits
-unfoldable pub Below : ℕ → List ℕ → Type 0
-Below w [] = Unit
-Below w (d ∷ ds) = (d < 2 ^ w) × Below w ds
 
 pub digits-length : (w n x : ℕ) → length (digits w n x) ≡ n
 digits-length w zero x = refl
 digits-length w (suc n) x = ap suc (digits-length w n (x / 2 ^ w))
 
 pub digits-below : (w n x : ℕ) → Below w (digits w n x)
-unfolding Below
 digits-below w zero x = tt
 digits-below w (suc n) x = (mod-lt x (pow-pos w), digits-below w n (x / 2 ^ w))
 
 pub below-at : (w : ℕ) (ds : List ℕ) (i : ℕ) → Below w ds → getD ds i 0 < 2 ^ w
-unfolding Below
-below-at w [] i b = pow-pos w
-below-at w (d ∷ ds) zero b = b .0
-below-at w (d ∷ ds) (suc i) b = below-at w ds i (b .1)
+below-at w ds i b = each-of (λ (d : ℕ). d < 2 ^ w) ds (pow-pos w) b i
+
+pub below-of : (w : ℕ) (ds : List ℕ) → ((i : ℕ) → getD ds i 0 < 2 ^ w) → Below w ds
+below-of w ds each = of-each (λ (d : ℕ). d < 2 ^ w) ds each
+
+pub below-same : (w n d : ℕ) → d < 2 ^ w → Below w (replicate n d)
+below-same w n d h = all-replicate (λ (x : ℕ). x < 2 ^ w) n d h
 
 power-suc : (w n : ℕ) → 2 ^ (w * suc n) ≡ 2 ^ w * 2 ^ (w * n)
 power-suc w n = ap (λ e. 2 ^ e) (mul-suc w n) ∙ pow-add 2 (w * n) w ∙ mul-comm (2 ^ (w * n)) (2 ^ w)
@@ -48,13 +46,11 @@ number-whole w n x h = number-digits w n x ∙ mod-eq-of-lt h
 
 -- digits in range come back
 pub digits-number : (w : ℕ) (ds : List ℕ) → Below w ds → digits w (length ds) (number w ds) ≡ ds
-unfolding Below
 digits-number w [] b = refl
 digits-number w (d ∷ ds) b =
     rw (low-limb (2 ^ w) d (number w ds) (b .0), high-limb (2 ^ w) d (number w ds) (b .0), digits-number w ds (b .1))
 
 pub number-lt : (w : ℕ) (ds : List ℕ) → Below w ds → number w ds < 2 ^ (w * length ds)
-unfolding Below
 number-lt w [] b = rw mul-zero (omega arith)
 number-lt w (d ∷ ds) b =
     let e : d + 2 ^ w * number w ds ≡ number w ds * 2 ^ w + d = add-comm d (2 ^ w * number w ds) ∙ ap (λ t. t + d) (mul-comm (2 ^ w) (number w ds)) in

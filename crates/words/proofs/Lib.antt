@@ -1,3 +1,4 @@
 pub mod Limbs
 pub mod Digits
 pub mod Wrap
+pub mod Bits

@@ -1,8 +1,9 @@
 -- A number as words, halves or bytes, and sums taken modulo 2^64. Document 01: "a word has 32 bits, a half 16", "words WL and halves
 -- HL, lowest first". The width is a parameter throughout. Assumes nothing.
 use mathlib.Core.List.{List, [], _∷_}
-use Prim.Native.Nat.{ℕ, zero, suc, _+_, _-_, _*_, _/_, _%_, _^_}
+use Prim.Native.Nat.{ℕ, zero, suc, _+_, _-_, _*_, _/_, _%_, _^_, _<_}
 use mathlib.Core.Bool.{Bool, cond}
+use Rattle.lists.specs.Lists.{All}
 
 -- the lowest n digits of x, of w bits each, lowest first
 abbrev pub digits : ℕ → ℕ → ℕ → List ℕ
@@ -13,6 +14,13 @@ digits w (suc n) x = x % 2 ^ w ∷ digits w n (x / 2 ^ w)
 abbrev pub number : ℕ → List ℕ → ℕ
 number w [] = 0
 number w (d ∷ ds) = d + 2 ^ w * number w ds
+
+-- each of them has w bits
+abbrev pub Below : ℕ → List ℕ → Type 0
+Below w ds = All (λ (d : ℕ). d < 2 ^ w) ds
+
+abbrev pub Bytes : List ℕ → Type 0
+Bytes l = Below 8 l
 
 -- a 64-bit number as two words, four halves, eight bytes
 abbrev pub words : ℕ → List ℕ

@@ -16,19 +16,22 @@ returns c = rw (sym (c .before .within-limits .ensures) ∙ not-true _ (c .if1 .
 shared-slice-read-is-width : tie.Need-shared-slice-read-is-width
 unfolding accessLimits
 shared-slice-read-is-width c =
-    let op = now (c .before .before .before .before .before .args .op) in
-    omega (arith, within-length accessLimits op (sym (c .before .before .within-limits .ensures) ∙ not-false _ (c .before .if1 .left)))
+    let at-within-limits = c .before .before in
+    let start = at-within-limits .before .before .before in
+    let op = now (start .args .op) in
+    omega (arith, within-length accessLimits op (sym (at-within-limits .within-limits .ensures) ∙ not-false _ (c .before .if1 .left)))
 
 returns-2 : tie.Need-returns-2
 unfolding goodAccess accessLimits
-returns-2 c = rw (sym (c .before .before .before .within-limits .ensures) ∙ not-false _ (c .before .before .if1 .left)) (c .is-width .ensures)
+returns-2 c =
+    let at-if1 = c .before .before in
+    rw (sym (at-if1 .before .within-limits .ensures) ∙ not-false _ (at-if1 .if1 .left)) (c .is-width .ensures)
 
 pub good-access-spec : {M : Type 1} → statement M
 good-access-spec =
     tie.close
     (tie.spec
-    (λ c. search needs)
-    (λ c κs. search needs)
+    (λ c. search needs) (λ c κs. search needs)
     returns
     shared-slice-read-is-width
     (λ c κs. search needs)

@@ -9,18 +9,8 @@ pub numbers-spec : {M : Type 1} → statement M
 numbers-spec =
     tie.close
     (tie.spec
-    (λ c. search needs)
-    (λ c κs. search needs)
-    (λ c. search needs)
-    (λ c κs. search needs)
-    (λ c. search needs)
-    (λ c κs. search needs)
-    (λ c. search needs)
-    (λ c κs. search needs)
-    (λ c. search needs)
+    (λ c. search needs) (λ c κs. search needs) (λ c. search needs) (λ c κs. search needs) (λ c. search needs)
     (λ c κs. search needs)
     (λ c. c .accept .ensures ∙ sym (ap addPairNumbers (c .before .enum-told .given .1)))
     (λ c. c .refuse .ensures ∙ sym (ap addPairNumbers (c .before .enum-told2 .given .1)))
-    (λ c. c .refuse2 .ensures ∙ sym (ap addPairNumbers (c .before .enum-told3 .given .1)))
-    (λ c. c .refuse3 .ensures ∙ sym (ap addPairNumbers (c .before .enum-told4 .given .1)))
-    (λ c. c .refuse4 .ensures ∙ sym (ap addPairNumbers (c .before .before .a .given .1))))
+    (λ c. c .row-refusal-numbers .ensures ∙ sym (ap addPairNumbers (c .before .before .a .given .1))))

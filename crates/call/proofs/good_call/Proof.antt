@@ -12,6 +12,5 @@ pub good-call-spec : {M : Type 1} → statement M
 good-call-spec =
     tie.close
     (tie.spec
-    (λ c. search needs)
-    (λ c κs. search needs)
+    (λ c. search needs) (λ c κs. search needs)
     returns)

@@ -12,6 +12,5 @@ pub good-op-spec : {M : Type 1} → statement M
 good-op-spec =
     tie.close
     (tie.spec
-    (λ c. search needs)
-    (λ c κs. search needs)
+    (λ c. search needs) (λ c κs. search needs)
     returns)

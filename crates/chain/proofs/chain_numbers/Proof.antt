@@ -9,9 +9,6 @@ pub chain-numbers-spec : {M : Type 1} → statement M
 chain-numbers-spec =
     tie.close
     (tie.spec
-    (λ c. search needs)
-    (λ c κs. search needs)
-    (λ c. search needs)
-    (λ c κs. search needs)
+    (λ c. search needs) (λ c κs. search needs) (λ c. search needs) (λ c κs. search needs)
     (λ c. c .accept .ensures ∙ sym (ap chainNumbers (c .before .before .a .given .1)))
     (λ c. c .refusal-numbers .ensures ∙ sym (ap chainNumbers (c .before .before .a2 .given .1))))

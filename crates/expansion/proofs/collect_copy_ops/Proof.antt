@@ -11,10 +11,15 @@ use Rattle.expansion.proofs.collect_copy_ops.Tie as tie
 
 -- places: the call of `expand` seen from the end, and the kind's number seen from that call
 abbrev expanded-of : tie.After-slice-known8 → tie.After-expand
-expanded-of c = let ops-back = c .before .before .before in let bytes-known = ops-back .before .before .before in bytes-known .before .before
+expanded-of c =
+    let ops-back = c .before .before .before in
+    let bytes-known = ops-back .before .before .before in
+    bytes-known .before .before
 
 abbrev kind-of : tie.After-expand → tie.After-kind-number
-kind-of c = let lent-second = c .before .before .before in lent-second .before .before
+kind-of c =
+    let lent-second = c .before .before .before in
+    lent-second .before .before
 
 returns : tie.Need-returns
 returns c =
@@ -35,10 +40,6 @@ pub collect-copy-ops-spec : {M : Type 1} → statement M
 collect-copy-ops-spec =
     tie.close
     (tie.spec
-    (λ c κs. search needs)
-    (λ c κs. search needs)
-    (λ c. search needs)
-    (λ c. search needs)
-    (λ c. search needs)
+    (λ c κs. search needs) (λ c κs. search needs) (λ c. search needs) (λ c. search needs) (λ c. search needs)
     (λ c. search needs)
     returns)

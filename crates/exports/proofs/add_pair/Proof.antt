@@ -9,6 +9,8 @@ pub add-pair-spec : {M : Type 1} → statement M
 add-pair-spec =
     tie.close
     (tie.spec
-    (λ c κs. search needs)
-    (λ c κs. search needs)
-    (λ c. (c .numbers .ensures ∙ c .before .add-pair .ensures .0, c .before .add-pair .ensures .1)))
+    (λ c κs. search needs) (λ c κs. search needs)
+    (λ c. record {
+      answer = c .numbers .ensures ∙ c .before .add-pair .ensures .answer;
+      written = c .before .add-pair .ensures .written;
+    }))

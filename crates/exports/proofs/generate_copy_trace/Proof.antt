@@ -7,7 +7,8 @@ use Rattle.exports.proofs.generate_copy_trace.Tie as tie
 
 returns : tie.Need-returns
 returns c =
-    (c .numbers .ensures ∙ c .before .before .before .generate-copy-trace .ensures .0, c .before .before .before .generate-copy-trace .ensures .1)
+    let made = c .before .before .before in
+    record { answer = c .numbers .ensures ∙ made .generate-copy-trace .ensures .answer; written = made .generate-copy-trace .ensures .written }
 
 pub generate-copy-trace-spec : {M : Type 1} → statement M
 generate-copy-trace-spec =

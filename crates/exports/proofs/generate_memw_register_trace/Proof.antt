@@ -1,14 +1,14 @@
--- `exports::generate_memw_register_trace` meets its contract: its answer is the maker's answer in numbers, and the table is as the maker left it. Assumes nothing.
+-- `exports::generate_memw_register_trace` meets its contract: the maker's answer in numbers, and the table as the maker left it. Assumes
+-- nothing.
 use borrow.Author.Needs.{needs}
 use mathlib.Core.Path.{_∙_}
 use Rattle.exports.proofs.generate_memw_register_trace.Statement.{statement}
 use Rattle.exports.proofs.generate_memw_register_trace.Tie as tie
 
 returns : tie.Need-returns
-returns c = (
-  c .numbers .ensures ∙ c .before .before .before .generate-memw-register-trace .ensures .0,
-  c .before .before .before .generate-memw-register-trace .ensures .1,
-)
+returns c =
+    let made = c .before .before .before .generate-memw-register-trace .ensures in
+    record { answer = c .numbers .ensures ∙ made .answer; written = made .written }
 
 pub generate-memw-register-trace-spec : {M : Type 1} → statement M
 generate-memw-register-trace-spec = tie.close (tie.spec (λ c κs. search needs) (λ c κs. search needs) (λ c. search needs) returns)

@@ -5,19 +5,10 @@ use Rattle.field.specs.Answers.{fieldNumbers}
 use Rattle.field.proofs.numbers.Statement.{statement}
 use Rattle.field.proofs.numbers.Tie as tie
 
-returns : tie.Need-returns
-returns c = c .accept .ensures ∙ sym (ap fieldNumbers (c .before .before .a .given .1))
-
-returns-2 : tie.Need-returns-2
-returns-2 c = c .refuse .ensures ∙ sym (ap fieldNumbers (c .before .before .a2 .given .1))
-
 pub numbers-spec : {M : Type 1} → statement M
 numbers-spec =
     tie.close
     (tie.spec
-    (λ c. search needs)
-    (λ c κs. search needs)
-    (λ c. search needs)
-    (λ c κs. search needs)
-    returns
-    returns-2)
+    (λ c. search needs) (λ c κs. search needs) (λ c. search needs) (λ c κs. search needs)
+    (λ c. c .accept .ensures ∙ sym (ap fieldNumbers (c .before .before .a .given .1)))
+    (λ c. c .refuse .ensures ∙ sym (ap fieldNumbers (c .before .before .a2 .given .1))))

@@ -1,4 +1,4 @@
--- `memw::generate_memw_aligned_trace` meets its contract, which is that of `trace::make` at 65,536 records. Assumes nothing.
+-- `memw::generate_memw_aligned_trace` meets its contract, which is that of `trace::make` at document 01's limit. Assumes nothing.
 use mathlib.Core.Path.{ap}
 use borrow.Author.Needs.{needs}
 use Rattle.records.specs.Table.{tableNumbers}
@@ -8,7 +8,7 @@ use Rattle.memw.proofs.generate_memw_aligned_trace.Tie as tie
 returns : tie.Need-returns
 returns c =
     let made = c .before .before .make .ensures in
-    (ap (tableNumbers 8) (made .0), made .1)
+    record { answer = ap (tableNumbers 8) (made .0); written = made .1 }
 
 pub generate-memw-aligned-trace-spec : {M : Type 1} → statement M
 generate-memw-aligned-trace-spec = tie.close (tie.spec (λ c κs. search needs) (λ c. search needs) returns)

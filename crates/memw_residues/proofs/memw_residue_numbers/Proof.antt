@@ -1,7 +1,7 @@
 -- `memw_residue_numbers`: each case's numbers are those that its definition gives. Assumes nothing.
 use borrow.Author.Needs.{needs}
 use mathlib.Core.Path.{sym, ap, _∙_}
-use Rattle.memw_residues.specs.Answers.{residueNumbers}
+use Rattle.memw_residues.specs.Answers.{memwResidueNumbers}
 use Rattle.memw_residues.proofs.memw_residue_numbers.Statement.{statement}
 use Rattle.memw_residues.proofs.memw_residue_numbers.Tie as tie
 
@@ -9,15 +9,6 @@ pub memw-residue-numbers-spec : {M : Type 1} → statement M
 memw-residue-numbers-spec =
     tie.close
     (tie.spec
-    (λ c. search needs)
-    (λ c κs. search needs)
-    (λ c. search needs)
-    (λ c κs. search needs)
-    (λ c. search needs)
-    (λ c κs. search needs)
-    (λ c. search needs)
-    (λ c κs. search needs)
-    (λ c. c .accept .ensures ∙ sym (ap residueNumbers (c .before .before .a .given .1)))
-    (λ c. c .refuse .ensures ∙ sym (ap residueNumbers (c .before .enum-told .given .1)))
-    (λ c. c .refuse2 .ensures ∙ sym (ap residueNumbers (c .before .enum-told2 .given .1)))
-    (λ c. c .refuse3 .ensures ∙ sym (ap residueNumbers (c .before .before .a2 .given .1))))
+    (λ c. search needs) (λ c κs. search needs) (λ c. search needs) (λ c κs. search needs)
+    (λ c. c .accept .ensures ∙ sym (ap memwResidueNumbers (c .before .before .a .given .1)))
+    (λ c. c .row-refusal-numbers .ensures ∙ sym (ap memwResidueNumbers (c .before .before .a2 .given .1))))

@@ -15,7 +15,9 @@ use Rattle.read_back.proofs.read_back.Tie as tie
 -- Places: the answer is known; the entry; the answer is a result; the operation records are written
 
 abbrev entry-of : tie.After-answer → tie.Start
-entry-of c = let known = c .before .before in known .before .before
+entry-of c =
+    let known = c .before .before in
+    known .before .before
 
 abbrev told-of : tie.After-write → tie.After-enum-told
 told-of c = c .before .before
@@ -24,7 +26,9 @@ abbrev answer-of : tie.After-enum-told → tie.After-answer
 answer-of c = c .before .before
 
 abbrev ops-of : tie.After-write2 → tie.After-write
-ops-of c = let lent = c .before in lent .before .before .before
+ops-of c =
+    let lent = c .before in
+    lent .before .before .before
 
 module _ (c : tie.After-answer) where
   abbrev l : List ℕ
@@ -68,15 +72,15 @@ pub read-back-spec : {M : Type 1} → statement M
 read-back-spec =
     tie.close
     (tie.spec
-    (λ c κs. search needs)
-    (λ c. search needs)
+    (λ c κs. search needs) (λ c. search needs)
     (λ c κs. let f = facts (c .before) in (f .fit, f .holds-ops))
-    (λ c κs. let wrote = c .before .before .before in let f = facts (told-of wrote) in (f .fit, f .holds-calls))
-    (λ c. search needs)
-    (λ c. search needs)
-    (λ c. search needs)
-    (λ c. search needs)
-    (λ c. let calls = c .before .before in let ops = ops-of calls in let told = told-of ops in let at = answer-of told in
+    (λ c κs. let f = facts (told-of (c .before .before .before)) in (f .fit, f .holds-calls))
+    (λ c. search needs) (λ c. search needs) (λ c. search needs) (λ c. search needs)
+    (λ c.
+    let calls = c .before .before in
+    let ops = ops-of calls in
+    let told = told-of ops in
+    let at = answer-of told in
     let read = sym (at .answer .ensures) ∙ told .enum-told .given .1 in
     record {
       answer = numbers at;

@@ -8,7 +8,6 @@ use Rattle.answer.specs.declared.Answer.{Answer}
 use Rattle.chain.proofs.Passed.{refusal-numbered}
 use Rattle.read_back.specs.ReadBack.{readBackNumbers, countsAfter}
 use Rattle.read_back.specs.declared.ReadBackAnswer.{ReadBackAnswer}
-use Rattle.read_back.specs.declared.ReadBackAnswer.the-variants.{Refused}
 use Rattle.read_back.proofs.read_back_numbers.Statement.{statement}
 use Rattle.read_back.proofs.read_back_numbers.Tie as tie
 
@@ -25,11 +24,7 @@ pub read-back-numbers-spec : {M : Type 1} → statement M
 read-back-numbers-spec =
     tie.close
     (tie.spec
-    (λ c. search needs)
-    (λ c κs. search needs)
-    (λ c. search needs)
-    (λ c κs. search needs)
-    (λ c. search needs)
+    (λ c. search needs) (λ c κs. search needs) (λ c. search needs) (λ c κs. search needs) (λ c. search needs)
     (λ c κs. search needs)
     (λ c. let told = c .before .before .before in
     told-numbers _ _ (told .a .given .1) _ (c .accept .ensures) (now (told .before .before .args .counts)) _ refl)

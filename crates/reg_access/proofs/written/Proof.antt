@@ -1,4 +1,4 @@
--- `reg_access::written` meets its contract: each route has its form of the record. Assumes nothing.
+-- `reg_access::written` meets its contract: each table has its form of the record. Assumes nothing.
 use borrow.Author.Needs.{needs}
 use Rattle.reg_access.specs.RegAccess.{built}
 use Rattle.reg_access.proofs.written.Statement.{statement}
@@ -6,35 +6,29 @@ use Rattle.reg_access.proofs.written.Tie as tie
 
 returns : tie.Need-returns
 unfolding built
-returns c = rw (c .before .enum-told .given .1, c .register-row .ensures, c .before .before .before .bit .ensures)
+returns c =
+    let told = c .before in
+    rw (told .enum-told .given .1, c .register-access .ensures, told .before .before .bit .ensures)
 
 returns-2 : tie.Need-returns-2
 unfolding built
-returns-2 c = rw (c .before .enum-told2 .given .1, c .register-access .ensures, c .before .before .before .bit .ensures)
+returns-2 c =
+    let told = c .before in
+    rw (told .enum-told2 .given .1, c .register-access2 .ensures, told .before .before .bit .ensures)
 
 returns-3 : tie.Need-returns-3
 unfolding built
-returns-3 c = rw (c .before .enum-told3 .given .1, c .register-access2 .ensures, c .before .before .before .bit .ensures)
+returns-3 c =
+    let told = c .before in
+    rw (told .enum-told3 .given .1, c .register-row .ensures, told .before .before .bit .ensures)
 
 pub written-spec : {M : Type 1} → statement M
 written-spec =
     tie.close
     (tie.spec
-    (λ c. search needs)
-    (λ c. search needs)
-    (λ c. search needs)
-    (λ c. search needs)
-    (λ c. search needs)
-    (λ c. search needs)
-    (λ c. search needs)
-    (λ c. search needs)
-    (λ c κs. search needs)
-    (λ c. search needs)
-    (λ c κs. search needs)
-    (λ c. search needs)
-    (λ c κs. search needs)
-    (λ c. search needs)
-    (λ c κs. search needs)
+    (λ c. search needs) (λ c. search needs) (λ c. search needs) (λ c. search needs) (λ c. search needs)
+    (λ c. search needs) (λ c. search needs) (λ c. search needs) (λ c κs. search needs) (λ c. search needs)
+    (λ c κs. search needs) (λ c. search needs) (λ c κs. search needs) (λ c. search needs) (λ c κs. search needs)
     returns
     returns-2
     returns-3)

@@ -15,29 +15,28 @@ returns : tie.Need-returns
 unfolding registerStep
 returns c =
     let a = c .before .before .before .args in
-    same-step (c .step-memory .result) (registerStep (a .kind) (a .timestamp) (a .src) (a .dst) (a .count) (a .state)) (rw (c .before .enum-told .given .1) (c .step-memory .ensures))
+    same-step (c .step-memory .result) (registerStep (a .kind) (a .timestamp) (a .src) (a .dst) (a .count) (a .state))
+    (rw (c .before .enum-told .given .1) (c .step-memory .ensures))
 
 returns-2 : tie.Need-returns-2
 unfolding registerStep
 returns-2 c =
     let a = c .before .before .before .args in
-    same-step (c .step-memory2 .result) (registerStep (a .kind) (a .timestamp) (a .src) (a .dst) (a .count) (a .state)) (rw (c .before .enum-told2 .given .1) (c .step-memory2 .ensures))
+    same-step (c .step-memory2 .result) (registerStep (a .kind) (a .timestamp) (a .src) (a .dst) (a .count) (a .state))
+    (rw (c .before .enum-told2 .given .1) (c .step-memory2 .ensures))
 
 returns-3 : tie.Need-returns-3
 unfolding registerStep
 returns-3 c =
     let a = c .before .before .before .args in
-    same-step (c .step-write .result) (registerStep (a .kind) (a .timestamp) (a .src) (a .dst) (a .count) (a .state)) (rw (c .before .enum-told3 .given .1) (c .step-write .ensures))
+    same-step (c .step-write .result) (registerStep (a .kind) (a .timestamp) (a .src) (a .dst) (a .count) (a .state))
+    (rw (c .before .enum-told3 .given .1) (c .step-write .ensures))
 
 pub collect-copy-register-ops-spec : {M : Type 1} → statement M
 collect-copy-register-ops-spec =
     tie.close
     (tie.spec
-    (λ c. search needs)
-    (λ c κs. search needs)
-    (λ c. search needs)
-    (λ c κs. search needs)
-    (λ c. search needs)
+    (λ c. search needs) (λ c κs. search needs) (λ c. search needs) (λ c κs. search needs) (λ c. search needs)
     (λ c κs. search needs)
     returns
     returns-2

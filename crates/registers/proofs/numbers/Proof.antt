@@ -9,14 +9,8 @@ pub numbers-spec : {M : Type 1} → statement M
 numbers-spec =
     tie.close
     (tie.spec
-    (λ c. search needs)
-    (λ c κs. search needs)
-    (λ c. search needs)
-    (λ c κs. search needs)
-    (λ c. search needs)
-    (λ c κs. search needs)
-    (λ c. search needs)
-    (λ c κs. search needs)
+    (λ c. search needs) (λ c κs. search needs) (λ c. search needs) (λ c κs. search needs) (λ c. search needs)
+    (λ c κs. search needs) (λ c. search needs) (λ c κs. search needs)
     (λ c. c .accept .ensures ∙ ap stepNumbers (sym (c .before .before .a .given .1)))
     (λ c. c .refuse .ensures ∙ ap stepNumbers (sym (c .before .enum-told .given .1)))
     (λ c. c .refuse2 .ensures ∙ ap stepNumbers (sym (c .before .enum-told2 .given .1)))

@@ -1,44 +1,48 @@
--- `registers::put_four` meets its contract: four parts of 29 fill a list of 116. Assumes nothing.
-use mathlib.Core.Path.{refl}
-use mathlib.Core.List.{_++_}
-use lib.ListN.{take, drop}
+-- `registers::put_four` meets its contract: four records, one behind the other, fill the list. Assumes nothing.
+use mathlib.Core.Path.{ap, _∙_}
+use mathlib.Core.List.{List, _++_}
+use Prim.Native.Nat.{ℕ, _*_}
+use native.Mathlib.Omega.{arith}
+use lib.ListN.{length-append}
 use denote.Ref.{now}
 use borrow.Author.Needs.{needs}
-use Rattle.registers.proofs.FourRecords.{four-placed}
+use Rattle.lists.specs.Lists.{store}
+use Rattle.lists.proofs.Store.{store-behind, store-all}
+use Rattle.access.specs.Access.{ACCESS-WIDTH}
 use Rattle.registers.proofs.put_four.Statement.{statement}
 use Rattle.registers.proofs.put_four.Tie as tie
 
 returns : tie.Need-returns
 returns c =
-    let start = c .before .before .before .before .before .before .before .before .before .before .before .before .before .before .before .before .before .before .before .before .before in
-    let l = now (start .args .records) in
-    let t1 = now (start .args .a) ++ drop 29 l in
-    let t2 = take 29 t1 ++ (now (start .args .b) ++ drop 29 (drop 29 t1)) in
-    let t3 = take 58 t2 ++ (now (start .args .c) ++ drop 29 (drop 58 t2)) in
-    let t4 = take 87 t3 ++ (now (start .args .d) ++ drop 29 (drop 87 t3)) in
-    rw (c .before .before .put4 .ensures, c .before .before .before .before .before .before .put3 .ensures, c .before .before .before .before .before .before .before .before .before .before .put2 .ensures, c .before .before .before .before .before .before .before .before .before .before .before .before .before .before .put .ensures)
-    (four-placed l t1 t2 t3 t4 (now (start .args .a)) (now (start .args .b)) (now (start .args .c)) (now (start .args .d))
-    (start .pre .0) (start .pre .1) (start .pre .2) (start .pre .3) (start .pre .4) refl refl refl refl)
+    let fourth = c .before .before in
+    let at-put-at-arg4 = fourth .before in
+    let third = at-put-at-arg4 .before .before .before in
+    let at-put-at-arg3 = third .before in
+    let second = at-put-at-arg3 .before .before .before in
+    let at-put-at-arg2 = second .before in
+    let first = at-put-at-arg2 .before .before .before in
+    let at-shared-slice-known3 = first .before .before .before in
+    let at-slice-known = at-shared-slice-known3 .before .before .before in
+    let start = at-slice-known .before in
+    let a = start .args in
+    let l = now (a .records) in
+    let x = now (a .a) in
+    let y = now (a .b) in
+    let z = now (a .c) in
+    let u = now (a .d) in
+    fourth .put-at4 .ensures
+    ∙ ap (λ (t : List ℕ). store t (3 * ACCESS-WIDTH) u) (third .put-at3 .ensures)
+    ∙ store-behind _ (2 * ACCESS-WIDTH) (3 * ACCESS-WIDTH) z u (omega arith)
+    ∙ ap (λ (t : List ℕ). store t (2 * ACCESS-WIDTH) (z ++ u)) (second .put-at2 .ensures)
+    ∙ store-behind _ ACCESS-WIDTH (2 * ACCESS-WIDTH) y (z ++ u) (omega arith)
+    ∙ ap (λ (t : List ℕ). store t ACCESS-WIDTH (y ++ (z ++ u))) (first .put-at .ensures)
+    ∙ store-behind l 0 ACCESS-WIDTH x (y ++ (z ++ u)) (omega arith)
+    ∙ store-all l (x ++ (y ++ (z ++ u))) (simp length-append (omega arith))
 
 pub put-four-spec : {M : Type 1} → statement M
 put-four-spec =
     tie.close
     (tie.spec
-    (λ c. search needs)
-    (λ c. search needs)
-    (λ c. search needs)
-    (λ c κs. search needs)
-    (λ c. search needs)
-    (λ c. search needs)
-    (λ c. search needs)
-    (λ c κs. search needs)
-    (λ c. search needs)
-    (λ c. search needs)
-    (λ c. search needs)
-    (λ c κs. search needs)
-    (λ c. search needs)
-    (λ c. search needs)
-    (λ c. search needs)
-    (λ c κs. search needs)
-    (λ c. search needs)
+    (λ c κs. search needs) (λ c κs. search needs) (λ c. search needs) (λ c κs. search needs) (λ c. search needs)
+    (λ c κs. search needs) (λ c. search needs)
     returns)

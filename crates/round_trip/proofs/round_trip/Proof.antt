@@ -6,6 +6,7 @@ use native.Mathlib.Omega.{arith}
 use borrow.Author.Needs.{needs}
 use denote.Ref.{now}
 use lib.ListN.{length}
+use Rattle.words.proofs.Digits.{below-of}
 use Rattle.round_trip.specs.Trip.{Trip, tripLent, tripOf}
 use Rattle.round_trip.specs.Legs.{decided}
 use Rattle.round_trip.specs.RoundTrip.{TypedTrip}
@@ -43,7 +44,7 @@ trip-of c =
 
 -- what the types say
 typed-at : (c : tie.After-slice-known) → TypedTrip (trip-of c)
-typed-at c = record { gap = search needs; bytes = λ i. omega (arith, c .slice-known .given i) }
+typed-at c = record { gap = search needs; bytes = below-of 8 (trip-of c .lists .slices .bytes) (λ i. omega (arith, c .slice-known .given i)) }
 
 -- the answer, by the counts
 decided-at : (c : tie.After-decide) → c .decide .result ≡ decidedOf (trip-of (known-of c))
@@ -76,16 +77,9 @@ pub round-trip-spec : {M : Type 1} → statement M
 round-trip-spec =
     tie.close
     (tie.spec
-    (λ c κs. search needs)
-    (λ c κs. search needs)
-    (λ c. search needs)
+    (λ c κs. search needs) (λ c κs. search needs) (λ c. search needs)
     run-requires
-    (λ c. search needs)
-    (λ c. search needs)
-    (λ c. search needs)
-    (λ c. search needs)
-    (λ c. search needs)
-    (λ c. search needs)
-    (λ c. search needs)
+    (λ c. search needs) (λ c. search needs) (λ c. search needs) (λ c. search needs) (λ c. search needs)
+    (λ c. search needs) (λ c. search needs)
     returns
     returns-2)

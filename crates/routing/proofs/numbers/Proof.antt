@@ -9,15 +9,8 @@ pub numbers-spec : {M : Type 1} → statement M
 numbers-spec =
     tie.close
     (tie.spec
-    (λ c. search needs)
-    (λ c. search needs)
-    (λ c κs. search needs)
-    (λ c. search needs)
-    (λ c κs. search needs)
-    (λ c. search needs)
-    (λ c κs. search needs)
-    (λ c. search needs)
-    (λ c κs. search needs)
+    (λ c. search needs) (λ c. search needs) (λ c κs. search needs) (λ c. search needs) (λ c κs. search needs)
+    (λ c. search needs) (λ c κs. search needs) (λ c. search needs) (λ c κs. search needs)
     (λ c. ap (routeNumbers _) (sym (c .before .a .given .1)))
     (λ c. c .refused .ensures ∙ ap (routeNumbers _) (sym (c .before .enum-told .given .1)))
     (λ c. c .refused2 .ensures ∙ ap (routeNumbers _) (sym (c .before .before .a2 .given .1)))

@@ -1,23 +1,28 @@
--- `routing::route_accesses` meets its contract: it is routing with the limit 65,536. Assumes nothing.
+-- `routing::route_accesses` meets its contract: it is routing with document 01's limit. Assumes nothing.
 use mathlib.Core.Path.{ap, _∙_}
 use denote.Ref.{now}
 use borrow.Author.Needs.{needs}
-use Rattle.classify.specs.declared.MemwRoute.the-variants.{Register, Aligned, General}
-use Rattle.routing.specs.Routing.{routeAfter, routeNumbers}
+use Rattle.routing.specs.Routing.{lists, listsAfter, routeNumbers}
 use Rattle.routing.proofs.route_accesses.Statement.{statement}
 use Rattle.routing.proofs.route_accesses.Tie as tie
 
+-- the entry, seen from the call of `route`
+abbrev start-of : tie.After-route → tie.Start
+start-of c =
+    let lent = c .before .before .before in
+    let known = lent .before .before .before in
+    known .before .before
+
 returns : tie.Need-returns
 returns c =
-    let a = c .before .before .before .before .before .before .before .before .before .before .before .before .before .before .args in
-    let l = now (a .accesses) in
-    let e = c .before .before .before .before .before .before .route .ensures in (
-      ap (routeNumbers 8) (e .0),
-      (
-        e .1 .0 ∙ ap (λ x. routeAfter Register l x (now (a .register))) (e .0),
-        (e .1 .1 .0 ∙ ap (λ x. routeAfter Aligned l x (now (a .aligned))) (e .0), e .1 .1 .1 ∙ ap (λ x. routeAfter General l x (now (a .general))) (e .0)),
-      ),
-    )
+    let at-aligned = c .before .before .before in
+    let at-route = at-aligned .before .before .before in
+    let a = start-of at-route .args in
+    let e = at-route .route .ensures in
+    record {
+      answer = ap (routeNumbers 8) (e .0);
+      lists = e .1 ∙ ap (λ x. listsAfter (now (a .accesses)) x (lists (now (a .register)) (now (a .aligned)) (now (a .general)))) (e .0);
+    }
 
 pub route-accesses-spec : {M : Type 1} → statement M
 route-accesses-spec =

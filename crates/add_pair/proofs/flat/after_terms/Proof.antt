@@ -15,24 +15,20 @@ Inv-loop list start n i₀ k₀ i k = (k ≤ n) × (afterTerms list (At start) n
 abbrev μ-loop : tie.MeasureT-loop
 μ-loop list start n i₀ k₀ i k = n - k
 
-loop-holds : tie.Need-loop-holds Inv-loop μ-loop
-loop-holds c = (omega arith, walk-starts _ _ _)
-
 returns : tie.Need-returns Inv-loop μ-loop
 returns c =
-    let turn = c .before .before .before in
-    walk-stops _ _ _ _ _ (turn .before .loop .inv .1) (turn .loop-test .taken) (c .before .before .after-term .ensures) (c .enum-told .given .1)
+    let walked = c .before .before in
+    let turn = walked .before in
+    walk-stops _ _ _ _ _ (turn .before .loop .inv .1) (turn .loop-test .taken) (walked .after-term .ensures) (c .enum-told .given .1)
 
 loop-again : tie.Need-loop-again Inv-loop μ-loop
 loop-again c =
-    let turn = c .before .before .before .before in (
+    let told = c .before in
+    let walked = told .before .before in
+    let turn = walked .before in (
       omega arith,
-      walk-goes-on _ _ _ _ _ (turn .before .loop .inv .1) (turn .loop-test .taken) (c .before .before .before .after-term .ensures)
-          (c .before .next .given .1),
+      walk-goes-on _ _ _ _ _ (turn .before .loop .inv .1) (turn .loop-test .taken) (walked .after-term .ensures) (told .next .given .1),
     )
-
-returns-2 : tie.Need-returns-2 Inv-loop μ-loop
-returns-2 c = walk-ends _ _ _ _ _ (c .before .loop .inv .1) (c .loop-test .left)
 
 pub after-terms-spec : {M : Type 1} → statement M
 after-terms-spec =
@@ -40,12 +36,9 @@ after-terms-spec =
     (tie.spec
     Inv-loop
     μ-loop
-    loop-holds
-    (λ c κs. search needs)
-    (λ c. search needs)
-    (λ c. search needs)
+    (λ c. (omega arith, walk-starts _ _ _))
+    (λ c κs. search needs) (λ c. search needs) (λ c. search needs)
     returns
-    (λ c. search needs)
-    (λ c. search needs)
+    (λ c. search needs) (λ c. search needs)
     loop-again
-    returns-2)
+    (λ c. walk-ends _ _ _ _ _ (c .before .loop .inv .1) (c .loop-test .left)))

@@ -7,4 +7,7 @@ use Rattle.add_pair.proofs.flat.number.Tie as tie
 
 pub number-spec : {M : Type 1} → statement M
 number-spec =
-    tie.close (tie.spec (λ c. search needs) (λ c. search needs) (λ c. search needs) (λ c. past (now (c .before .args .list)) (c .before .args .i) (c .if1 .left)))
+    tie.close
+    (tie.spec
+    (λ c. search needs) (λ c. search needs) (λ c. search needs)
+    (λ c. let a = c .before .args in past (now (a .list)) (a .i) (c .if1 .left)))

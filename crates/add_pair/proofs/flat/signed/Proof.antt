@@ -4,11 +4,10 @@ use Rattle.add_pair.proofs.Terms.{signed-low, signed-high}
 use Rattle.add_pair.proofs.flat.signed.Statement.{statement}
 use Rattle.add_pair.proofs.flat.signed.Tie as tie
 
-returns : tie.Need-returns
-returns c = signed-low _ (c .if1 .taken)
-
-returns-2 : tie.Need-returns-2
-returns-2 c = signed-high _ (c .if1 .left) (search needs)
-
 pub signed-spec : {M : Type 1} → statement M
-signed-spec = tie.close (tie.spec (λ c. search needs) (λ c. search needs) returns returns-2)
+signed-spec =
+    tie.close
+    (tie.spec
+    (λ c. search needs) (λ c. search needs)
+    (λ c. signed-low _ (c .if1 .taken))
+    (λ c. signed-high _ (c .if1 .left) (search needs)))

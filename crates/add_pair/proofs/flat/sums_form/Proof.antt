@@ -5,37 +5,27 @@ use Rattle.add_pair.proofs.Walks.{sums-nowhere, sums-past, sums-end, su
 use Rattle.add_pair.proofs.flat.sums_form.Statement.{statement}
 use Rattle.add_pair.proofs.flat.sums_form.Tie as tie
 
-returns : tie.Need-returns
-returns c = sums-nowhere _ (c .enum-told .given .1)
-
-returns-2 : tie.Need-returns-2
-returns-2 c = sums-past _ (c .before .before .place .given .1) (c .if1 .taken)
-
 returns-3 : tie.Need-returns-3
 returns-3 c =
-    let end = c .before .before .before in
-    sums-end _ (end .before .before .before .before .place .given .1) (end .before .after-sum .ensures) (end .is-end .ensures)
+    let at-end = c .before .before .before in
+    let at-sum = at-end .before in
+    sums-end _ (at-sum .before .before .before .place .given .1) (at-sum .after-sum .ensures) (at-end .is-end .ensures)
     (c .before .before .if2 .taken) (c .before .number .ensures) refl
 
 returns-4 : tie.Need-returns-4
 returns-4 c =
-    let end = c .before in
-    sums-more _ (end .before .before .before .before .place .given .1) (end .before .after-sum .ensures) (end .is-end .ensures)
-    (c .if2 .left)
+    let at-sum = c .before .before in
+    sums-more _ (at-sum .before .before .before .place .given .1) (at-sum .after-sum .ensures)
+    (c .before .is-end .ensures) (c .if2 .left)
 
 pub sums-form-spec : {M : Type 1} → statement M
 sums-form-spec =
     tie.close
     (tie.spec
-    (λ c. search needs)
-    (λ c. search needs)
-    returns
-    returns-2
-    (λ c κs. search needs)
-    (λ c κs. search needs)
-    (λ c κs. search needs)
-    (λ c. search needs)
-    (λ c. search needs)
+    (λ c. search needs) (λ c. search needs)
+    (λ c. sums-nowhere _ (c .enum-told .given .1))
+    (λ c. sums-past _ (c .before .before .place .given .1) (c .if1 .taken))
+    (λ c κs. search needs) (λ c κs. search needs) (λ c κs. search needs) (λ c. search needs) (λ c. search needs)
     (λ c. search needs)
     returns-3
     returns-4)

@@ -5,14 +5,12 @@ use Rattle.add_pair.specs.Flat.{termAfter}
 use Rattle.add_pair.proofs.flat.term_after.Statement.{statement}
 use Rattle.add_pair.proofs.flat.term_after.Tie as tie
 
-returns : tie.Need-returns
-unfolding termAfter
-returns c = sym (ap (termAfter _) (c .enum-told .given .1))
-
-returns-2 : tie.Need-returns-2
-unfolding termAfter
-returns-2 c = c .term-from .ensures ∙ sym (ap (termAfter _) (c .before .before .place .given .1))
-
 pub term-after-spec : {M : Type 1} → statement M
+unfolding termAfter
 term-after-spec =
-    tie.close (tie.spec (λ c. search needs) (λ c. search needs) returns (λ c κs. search needs) returns-2)
+    tie.close
+    (tie.spec
+    (λ c. search needs) (λ c. search needs)
+    (λ c. sym (ap (termAfter _) (c .enum-told .given .1)))
+    (λ c κs. search needs)
+    (λ c. c .term-from .ensures ∙ sym (ap (termAfter _) (c .before .before .place .given .1))))

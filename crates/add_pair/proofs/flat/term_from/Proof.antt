@@ -7,9 +7,6 @@ use Rattle.add_pair.proofs.Terms.{term-past, term-constant, term-column
 use Rattle.add_pair.proofs.flat.term_from.Statement.{statement}
 use Rattle.add_pair.proofs.flat.term_from.Tie as tie
 
-returns : tie.Need-returns
-returns c = term-past _ _ (c .if1 .taken)
-
 returns-2 : tie.Need-returns-2
 returns-2 c =
     let value = c .before .before in
@@ -25,13 +22,8 @@ pub term-from-spec : {M : Type 1} → statement M
 term-from-spec =
     tie.close
     (tie.spec
-    returns
-    (λ c. search needs)
-    (λ c κs. search needs)
-    (λ c κs. search needs)
-    (λ c. search needs)
-    (λ c. search needs)
+    (λ c. term-past _ _ (c .if1 .taken))
+    (λ c. search needs) (λ c κs. search needs) (λ c κs. search needs) (λ c. search needs) (λ c. search needs)
     returns-2
-    (λ c. search needs)
-    (λ c κs. search needs)
+    (λ c. search needs) (λ c κs. search needs)
     returns-3)

@@ -4,11 +4,10 @@ use Rattle.add_pair.proofs.Terms.{term-there, term-none}
 use Rattle.add_pair.proofs.flat.term_of.Statement.{statement}
 use Rattle.add_pair.proofs.flat.term_of.Tie as tie
 
-returns : tie.Need-returns
-returns c = term-there _ _ _ _ (c .before .before .if1 .taken) (c .before .after-terms .ensures) (c .term-after .ensures)
-
-returns-2 : tie.Need-returns-2
-returns-2 c = term-none _ _ _ _ (c .if1 .left)
-
 pub term-of-spec : {M : Type 1} → statement M
-term-of-spec = tie.close (tie.spec (λ c κs. search needs) (λ c κs. search needs) returns returns-2)
+term-of-spec =
+    tie.close
+    (tie.spec
+    (λ c κs. search needs) (λ c κs. search needs)
+    (λ c. term-there _ _ _ _ (c .before .before .if1 .taken) (c .before .after-terms .ensures) (c .term-after .ensures))
+    (λ c. term-none _ _ _ _ (c .if1 .left)))

@@ -22,13 +22,20 @@ l-of c = lent (now (c .args .bytes)) (now (c .args .stamps)) (now (c .args .ops)
 
 -- places: the entry seen from the count, and the call of `expand_next` seen from the end of a turn
 abbrev start-of : tie.After-record-count Inv-loop μ-loop → tie.Start Inv-loop μ-loop
-start-of c = let known = c .before .before .before in known .before .before .before
+start-of c =
+    let known = c .before .before .before in
+    known .before .before .before
 
 abbrev turned-of : tie.After-slice-known8 Inv-loop μ-loop → tie.After-expand-next Inv-loop μ-loop
-turned-of c = let ops-back = c .before .before .before in let bytes-known = ops-back .before .before .before in bytes-known .before .before
+turned-of c =
+    let ops-back = c .before .before .before in
+    let bytes-known = ops-back .before .before .before in
+    bytes-known .before .before
 
 abbrev read-of : tie.After-expand-next-arg4 Inv-loop μ-loop → tie.After-record-at Inv-loop μ-loop
-read-of c = let lent-first = c .before .before .before in lent-first .before
+read-of c =
+    let lent-first = c .before .before .before in
+    lent-first .before
 
 loop-holds : tie.Need-loop-holds Inv-loop μ-loop
 loop-holds c =
@@ -71,11 +78,7 @@ expand-all-spec =
     (λ c κs. omega arith)
     (λ c κs. read-of c .before .before .loop .inv .room)
     add-done
-    (λ c. search needs)
-    (λ c. search needs)
+    (λ c. search needs) (λ c. search needs)
     loop-again
-    (λ c. search needs)
-    (λ c. search needs)
-    (λ c. search needs)
-    (λ c. search needs)
+    (λ c. search needs) (λ c. search needs) (λ c. search needs) (λ c. search needs)
     returns)

@@ -17,13 +17,20 @@ l-of c = lent (now (c .args .bytes)) (now (c .args .stamps)) (now (c .args .ops)
 
 -- places: the entry seen from the test of the call, and the call of `expand` seen from the end
 abbrev start-of : tie.After-good-call → tie.Start
-start-of c = let known = c .before .before .before in known .before .before .before
+start-of c =
+    let known = c .before .before .before in
+    known .before .before .before
 
 abbrev expanded-of : tie.After-records-in → tie.After-expand
-expanded-of c = let back = c .before .before .before in let stamps-back = back .before .before .before in stamps-back .before .before .before
+expanded-of c =
+    let back = c .before .before .before in
+    let stamps-back = back .before .before .before in
+    stamps-back .before .before .before
 
 abbrev called-of : tie.After-expand → tie.After-call-from
-called-of c = let lent-second = c .before .before .before in lent-second .before .before
+called-of c =
+    let lent-second = c .before .before .before in
+    lent-second .before .before
 
 good-at : (c : tie.Else1) → goodCall (now (start-of (c .before) .args .call)) ≡ true
 good-at c = sym (c .before .good-call .ensures) ∙ not-false _ (c .if1 .left)
@@ -50,14 +57,6 @@ expand-next-spec =
     returns
     (λ c. search needs)
     (λ c κs. good-whole _ (good-at c))
-    (λ c. search needs)
-    (λ c. search needs)
-    (λ c. search needs)
-    (λ c. search needs)
-    (λ c κs. search needs)
-    (λ c κs. search needs)
-    (λ c. search needs)
-    (λ c. search needs)
-    (λ c. search needs)
-    (λ c. search needs)
+    (λ c. search needs) (λ c. search needs) (λ c. search needs) (λ c. search needs) (λ c κs. search needs)
+    (λ c κs. search needs) (λ c. search needs) (λ c. search needs) (λ c. search needs) (λ c. search needs)
     returns-2)

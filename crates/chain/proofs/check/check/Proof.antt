@@ -3,25 +3,27 @@
 use mathlib.Core.Path.{_≡_, refl, sym, ap, _∙_}
 use mathlib.Core.Logic.{⊎-elim}
 use mathlib.Core.List.{List}
-use Prim.Native.Nat.{ℕ, _≤_, _-_}
+use Prim.Native.Nat.{ℕ, _+_, _*_, _-_, _≤_}
 use native.Mathlib.Omega.{arith}
 use borrow.Author.Needs.{needs}
 use borrow.Author.Tests.{not-true, not-false}
 use denote.Ref.{now}
-use lib.ListN.{length}
+use lib.ListN.{length, take, drop}
 use Rattle.lists.specs.Lists.{first}
 use Rattle.lists.proofs.First.{first-miss, first-hit, first-end}
+use Rattle.field.specs.Rows.{Elements}
+use Rattle.field.proofs.FirstLarge.{elements}
+use Rattle.records.specs.Records.{recordAt}
+use Rattle.records.proofs.Records.{record-part}
 use Rattle.copy_row.specs.Columns.{COLUMNS}
-use Rattle.copy_residues.specs.Cells.{Elements}
 use Rattle.copy_residues.specs.Residues.{residue, RESIDUES}
 use Rattle.copy_residues.specs.RowCheck.{firstResidue, rowFault}
 use Rattle.copy_residues.specs.declared.RowFault.the-variants.{Fine, NotZero}
-use Rattle.copy_residues.proofs.InRange.{elements}
 use Rattle.copy_residues.proofs.ZeroResidues.{notZero, found, passed}
 use Rattle.copy_residues.proofs.RowFaults.{not-element, out-of-range, not-zero, fine}
-use Rattle.plain_row.proofs.Same.{fits-of-fine}
-use Rattle.chain.specs.Chain.{chainAnswer}
-use Rattle.chain.proofs.Rows.{rowAt, row-length, Walk, gap-large, not-rows, walk-start, from-element, from-range, from-residue, from-broken, walk-on, from-unended, from-end}
+use Rattle.row_test.proofs.Columns.{caps-of-fine}
+use Rattle.chain.proofs.Rows.{row-length, Walk, gap-large, not-rows, walk-start, walk-on}
+use Rattle.chain.proofs.Rows.{from-element, from-range, from-residue, from-broken, from-unended, from-end}
 use Rattle.chain.proofs.check.check.Statement.{statement}
 use Rattle.chain.proofs.check.check.Tie as tie
 
@@ -44,7 +46,7 @@ abbrev Top : Type 0
 Top = tie.At-rows Inv-loop μ-loop Inv-rows μ-rows
 
 abbrev Row : Type 0
-Row = tie.After-record-at Inv-loop μ-loop Inv-rows μ-rows
+Row = tie.After-row Inv-loop μ-loop Inv-rows μ-rows
 
 abbrev Large : Type 0
 Large = tie.After-first-large Inv-loop μ-loop Inv-rows μ-rows
@@ -62,7 +64,9 @@ abbrev Joined : Type 0
 Joined = tie.Joined5 Inv-loop μ-loop Inv-rows μ-rows
 
 abbrev entry-of : Top → tie.Start Inv-loop μ-loop Inv-rows μ-rows
-entry-of c = let past = c .before .before .before in past .before .before
+entry-of c =
+    let past = c .before .before .before in
+    past .before .before
 
 abbrev gap-of : Top → ℕ
 gap-of c = entry-of c .args .gap
@@ -91,14 +95,19 @@ joined-row c = c .before .before
 -- The row in hand
 
 abbrev row-of : Row → List ℕ
-row-of c = now (c .record-at .result)
+row-of c =
+    let start = COLUMNS * top-of c .rows .k in
+    take (start + COLUMNS - start) (drop start (rows-of (top-of c)))
+
+is : (c : Row) → row-of c ≡ recordAt COLUMNS (rows-of (top-of c)) (top-of c .rows .k)
+is c = record-part COLUMNS (rows-of (top-of c)) (top-of c .rows .k)
 
 wide : (c : Row) → length (row-of c) ≡ COLUMNS
-wide c = ap length (c .record-at .ensures) ∙ row-length (rows-of (top-of c)) (top-of c .rows .k) (omega arith)
+wide c = ap length (is c) ∙ row-length (rows-of (top-of c)) (top-of c .rows .k) (omega arith)
 
 -- its numbers are elements once the first test is passed
-elements-of : (c : Out) → Elements (row-of (large-row (out-large c)))
-elements-of c = elements _ (wide (large-row (out-large c))) (rw (← out-large c .first-large .ensures) (c .before .if6 .left))
+elements-of : (c : Out) → Elements COLUMNS (row-of (large-row (out-large c)))
+elements-of c = elements _ _ (wide (large-row (out-large c))) (rw (← out-large c .first-large .ensures) (c .before .if6 .left))
 
 -- where the arms of the quick test meet, the row has no fault
 fine-row : (c : Joined) → rowFault (gap-of (top-of (joined-row c))) (row-of (joined-row c)) ≡ Fine
@@ -129,9 +138,6 @@ module _ (c : Row) where
   abbrev walk : Walk (gap-of at) (rows-of at) (now (at .rows .previous)) (at .rows .k)
   walk = at .rows .inv
 
-  abbrev is : row-of c ≡ rowAt (rows-of at) (at .rows .k)
-  is = c .record-at .ensures
-
 -- a residue that is not 0 is the lowest such
 lowest : (c : Residue) (other : c .residue-with .result ≡ 0 → ⊥) → let out = parts-out (residue-parts c) in let row = large-row (out-large out) in
     rowFault (gap-of (top-of row)) (row-of row) ≡ NotZero (c .before .before .loop .i)
@@ -156,43 +162,55 @@ check-spec =
     (λ c. c .refused .ensures ∙ gap-large _ _ (c .before .if1 .taken))
     (λ c κs. search needs)
     (λ c. c .refused2 .ensures ∙ not-rows _ _ (c .before .before .if1 .left) (c .before .if2 .taken))
-    (λ c. search needs)
-    (λ c. search needs)
-    (λ c. search needs)
+    (λ c. search needs) (λ c. search needs) (λ c. search needs)
     (λ c. walk-start _ _ (c .before .before .if1 .left) (c .before .if2 .left))
     (λ c κs. c .before .rows .inv .stood)
     (λ c κs. search needs)
-    (λ c κs. search needs)
+    (λ c. search needs) (λ c. search needs) (λ c. search needs) (λ c. search needs)
+    (λ c. search needs) (λ c. search needs) (λ c. search needs)
     (λ c κs. (omega arith, wide c))
-    (λ c κs. search needs)
-    (λ c κs. search needs)
+    (λ c κs. search needs) (λ c κs. search needs)
     (λ c κs. wide (large-row (c .before)))
     (λ c κs. search needs)
     (λ c κs. (elements-of (c .before), omega arith))
     (λ c. (omega arith, refl))
     (λ c κs. let parts = c .before .before in (elements-of (parts-out parts), parts .parts-of .ensures .0, omega arith))
-    (λ c κs. search needs)
-    (λ c. search needs)
-    (λ c. search needs)
-    (λ c. (omega arith, c .before .before .before .loop .inv .1 ∙ first-miss _ _ _ (omega arith) (passed (right (c .before)) (c .if8 .left))))
-    (λ c κs. let row = joined-row c in ((wide row, fits-of-fine _ (omega arith) _ (wide row) (fine-row c)), walk row .stood))
-    (λ c κs. search needs)
-    (λ c. search needs)
-    (λ c. search needs)
-    (λ c. let j = c .before .before in let row = joined-row j in
+    (λ c κs. search needs) (λ c. search needs) (λ c. search needs)
+    (λ c.
+    let worked = c .before in
+    (omega arith, worked .before .before .loop .inv .1 ∙ first-miss _ _ _ (omega arith) (passed (right worked) (c .if8 .left))))
+    (λ c κs. let row = joined-row c in ((wide row, caps-of-fine _ (omega arith) _ (wide row) (fine-row c)), walk row .stood))
+    (λ c κs. search needs) (λ c. search needs) (λ c. search needs)
+    (λ c.
+    let j = c .before .before in
+    let row = joined-row j in
     walk-on _ _ _ _ (walk row) (omega arith) _ (is row) (fine-row j) (omega arith) (wide row) (sym (c .before .linked .ensures) ∙ not-false _ (c .if9 .left)))
-    (λ c. let past = c .before .before in let top = past .before .before in
+    (λ c.
+    let past = c .before .before in
+    let top = past .before .before in
     c .refused3 .ensures ∙ from-unended _ _ _ _ (top .rows .inv) (omega arith) (sym (past .unended .ensures) ∙ c .before .if4 .taken))
-    (λ c. let top = c .before .before .before in from-end _ _ _ _ (top .rows .inv) (omega arith) (sym (c .before .unended .ensures) ∙ c .if4 .left))
-    (λ c. let large = c .before .before in let row = large-row large in
+    (λ c.
+    let past = c .before in
+    from-end _ _ _ _ (past .before .before .rows .inv) (omega arith) (sym (past .unended .ensures) ∙ c .if4 .left))
+    (λ c.
+    let large = c .before .before in
+    let row = large-row large in
     c .refused4 .ensures
     ∙ from-element _ _ _ _ (walk row) (omega arith) _ (is row) (not-element _ _ (wide row) (rw (← large .first-large .ensures) (c .before .if6 .taken))))
-    (λ c. let out = c .before .before in let large = out-large out in let row = large-row large in
+    (λ c.
+    let out = c .before .before in
+    let large = out-large out in
+    let row = large-row large in
     c .refused5 .ensures
     ∙ from-range _ _ _ _ (walk row) (omega arith) _ (is row)
     (out-of-range _ _ (wide row) (rw (← large .first-large .ensures) (out .before .if6 .left)) (rw (← out .first-out .ensures) (c .before .if7 .taken))))
-    (λ c. let residue = c .before .before in let row = large-row (out-large (parts-out (residue-parts residue))) in
+    (λ c.
+    let residue = c .before .before in
+    let row = large-row (out-large (parts-out (residue-parts residue))) in
     c .refused6 .ensures ∙ from-residue _ _ _ _ (walk row) (omega arith) _ (is row) _ (lowest residue (c .before .if8 .taken)))
-    (λ c. let linked = c .before .before in let j = linked .before in let row = joined-row j in
+    (λ c.
+    let linked = c .before .before in
+    let j = linked .before in
+    let row = joined-row j in
     c .refused7 .ensures
     ∙ from-broken _ _ _ _ (walk row) (omega arith) _ (is row) (fine-row j) (sym (linked .linked .ensures) ∙ not-true _ (c .before .if9 .taken))))

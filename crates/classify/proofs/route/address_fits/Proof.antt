@@ -5,4 +5,7 @@ use Rattle.classify.proofs.route.address_fits.Tie as tie
 
 pub address-fits-spec : {M : Type 1} → statement M
 address-fits-spec =
-    tie.close (tie.spec (λ c. search needs) (λ c. search needs) (λ c. search needs) (λ c. rw (c .enum-told .given .1)) (λ c. search needs) (λ c. search needs))
+    tie.close
+    (tie.spec
+    (λ c. search needs) (λ c. search needs) (λ c. search needs) (λ c. search needs) (λ c. search needs)
+    (λ c. rw (c .enum-told3 .given .1)))

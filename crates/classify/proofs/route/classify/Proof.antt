@@ -12,11 +12,15 @@ returns c = simp (sym (c .before .is-register-op .ensures) ∙ c .if1 .taken)
 
 returns-2 : tie.Need-returns-2
 unfolding classify
-returns-2 c = simp (sym (c .before .before .before .is-register-op .ensures) ∙ c .before .before .if1 .left, sym (c .before .is-aligned-op .ensures) ∙ c .if2 .taken)
+returns-2 c =
+    let missed = c .before .before in
+    simp (sym (missed .before .is-register-op .ensures) ∙ missed .if1 .left, sym (c .before .is-aligned-op .ensures) ∙ c .if2 .taken)
 
 returns-3 : tie.Need-returns-3
 unfolding classify
-returns-3 c = simp (sym (c .before .before .before .is-register-op .ensures) ∙ c .before .before .if1 .left, sym (c .before .is-aligned-op .ensures) ∙ c .if2 .left)
+returns-3 c =
+    let missed = c .before .before in
+    simp (sym (missed .before .is-register-op .ensures) ∙ missed .if1 .left, sym (c .before .is-aligned-op .ensures) ∙ c .if2 .left)
 
 pub classify-spec : {M : Type 1} → statement M
 classify-spec =

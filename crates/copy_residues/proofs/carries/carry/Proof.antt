@@ -8,18 +8,13 @@ use Rattle.field.specs.Carries.{carryP}
 use Rattle.copy_residues.proofs.carries.carry.Statement.{statement}
 use Rattle.copy_residues.proofs.carries.carry.Tie as tie
 
-returns : tie.Need-returns
-unfolding carryP mulP
-returns c = (sym (ap (λ (x : ℕ). mulP x inv32) (sym (c .before .sub .ensures .0) ∙ c .if1 .taken)), search needs)
-
-returns-2 : tie.Need-returns-2
-unfolding carryP mulP
-returns-2 c = (sym (ap (λ (x : ℕ). mulP x inv32) (sym (c .before .before .sub .ensures .0) ∙ c .if2 .taken)), search needs)
-
-returns-3 : tie.Need-returns-3
-unfolding carryP
-returns-3 c = (rw (c .mul .ensures .0, c .before .before .before .sub .ensures .0), search needs)
-
 pub carry-spec : {M : Type 1} → statement M
+unfolding carryP mulP
 carry-spec =
-    tie.close (tie.spec (λ c κs. search needs) returns returns-2 (λ c κs. search needs) returns-3)
+    tie.close
+    (tie.spec
+    (λ c κs. search needs)
+    (λ c. (sym (ap (λ (x : ℕ). mulP x inv32) (sym (c .before .sub .ensures .0) ∙ c .if1 .taken)), search needs))
+    (λ c. (sym (ap (λ (x : ℕ). mulP x inv32) (sym (c .before .before .sub .ensures .0) ∙ c .if2 .taken)), search needs))
+    (λ c κs. search needs)
+    (λ c. (rw (c .mul .ensures .0, c .before .before .before .sub .ensures .0), search needs)))

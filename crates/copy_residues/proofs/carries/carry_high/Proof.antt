@@ -9,7 +9,5 @@ unfolding carryHigh
 carry-high-spec =
     tie.close
     (tie.spec
-    (λ c κs. search needs)
-    (λ c κs. search needs)
-    (λ c κs. search needs)
+    (λ c κs. search needs) (λ c κs. search needs) (λ c κs. search needs)
     (λ c. (rw (c .carry .ensures .0, c .before .add2 .ensures .0, c .before .before .add .ensures .0), search needs)))

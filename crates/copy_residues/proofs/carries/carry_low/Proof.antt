@@ -9,6 +9,5 @@ unfolding carryLow
 carry-low-spec =
     tie.close
     (tie.spec
-    (λ c κs. search needs)
-    (λ c κs. search needs)
+    (λ c κs. search needs) (λ c κs. search needs)
     (λ c. (rw (c .carry .ensures .0, c .before .add .ensures .0), search needs)))

@@ -8,11 +8,13 @@ use Rattle.copy_residues.proofs.carries.count_borrow.Tie as tie
 
 returns : tie.Need-returns
 unfolding decrHigh
-returns c = (
-  rw (c .carry-high .ensures .0, c .before .cell .ensures .0, c .before .before .halves-word .ensures .0, c .before .before .before .before .pre .1 .0)
-      (sym (carried (c .before .before .before .before .pre .0))),
-  search needs,
-)
+returns c =
+    let at-halves-word = c .before .before in
+    let start = at-halves-word .before .before in (
+      rw (c .carry-high .ensures .0, c .before .cell .ensures .0, at-halves-word .halves-word .ensures .0, start .pre .1 .0)
+          (sym (carried (start .pre .0))),
+      search needs,
+    )
 
 pub count-borrow-spec : {M : Type 1} → statement M
 count-borrow-spec =

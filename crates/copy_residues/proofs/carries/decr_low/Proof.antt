@@ -9,7 +9,7 @@ unfolding decrLow
 decr-low-spec =
     tie.close
     (tie.spec
-    (λ c κs. search needs)
-    (λ c κs. search needs)
-    (λ c κs. search needs)
-    (λ c. (rw (c .carry-low .ensures .0, c .before .cell .ensures .0, c .before .before .halves-word .ensures .0, c .before .before .before .before .pre .1 .0), search needs)))
+    (λ c κs. search needs) (λ c κs. search needs) (λ c κs. search needs)
+    (λ c. let at-halves-word = c .before .before in
+    let start = at-halves-word .before .before in
+    (rw (c .carry-low .ensures .0, c .before .cell .ensures .0, at-halves-word .halves-word .ensures .0, start .pre .1 .0), search needs)))

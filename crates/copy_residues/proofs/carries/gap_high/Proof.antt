@@ -9,8 +9,6 @@ unfolding gapHigh
 gap-high-spec =
     tie.close
     (tie.spec
-    (λ c κs. search needs)
-    (λ c κs. search needs)
-    (λ c κs. search needs)
-    (λ c κs. search needs)
-    (λ c. (rw (c .carry-high .ensures .0, c .before .cell2 .ensures .0, c .before .before .gap-low .ensures .0, c .before .before .before .cell .ensures .0), search needs)))
+    (λ c κs. search needs) (λ c κs. search needs) (λ c κs. search needs) (λ c κs. search needs)
+    (λ c. let at-gap-low = c .before .before in
+    (rw (c .carry-high .ensures .0, c .before .cell2 .ensures .0, at-gap-low .gap-low .ensures .0, at-gap-low .before .cell .ensures .0), search needs)))

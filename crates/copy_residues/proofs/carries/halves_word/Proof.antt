@@ -14,22 +14,19 @@ plain low high h k = omega arith
 
 returns : tie.Need-returns
 unfolding halvesWord
-returns c = (
-  plain _ _ (c .before .if1 .taken) (c .if2 .taken) ∙ rw (c .before .before .cell2 .ensures .0, c .before .before .before .cell .ensures .0),
-  omega arith,
-)
+returns c =
+    let at-cell2 = c .before .before in (
+      plain _ _ (c .before .if1 .taken) (c .if2 .taken) ∙ rw (at-cell2 .cell2 .ensures .0, at-cell2 .before .cell .ensures .0),
+      omega arith,
+    )
 
 pub halves-word-spec : {M : Type 1} → statement M
 unfolding halvesWord
 halves-word-spec =
     tie.close
     (tie.spec
-    (λ c κs. search needs)
-    (λ c. search needs)
-    (λ c κs. search needs)
-    (λ c. search needs)
-    (λ c. search needs)
+    (λ c κs. search needs) (λ c. search needs) (λ c κs. search needs) (λ c. search needs) (λ c. search needs)
     returns
-    (λ c κs. search needs)
-    (λ c κs. search needs)
-    (λ c. (rw (c .add .ensures .0, c .before .mul .ensures .0, c .before .before .before .cell2 .ensures .0, c .before .before .before .before .cell .ensures .0), search needs)))
+    (λ c κs. search needs) (λ c κs. search needs)
+    (λ c. let at-cell2 = c .before .before .before in
+    (rw (c .add .ensures .0, c .before .mul .ensures .0, at-cell2 .cell2 .ensures .0, at-cell2 .before .cell .ensures .0), search needs)))

@@ -9,9 +9,7 @@ unfolding incrHigh
 incr-high-spec =
     tie.close
     (tie.spec
-    (λ c. search needs)
-    (λ c κs. search needs)
-    (λ c. search needs)
-    (λ c κs. search needs)
-    (λ c κs. search needs)
-    (λ c. (rw (c .carry-high .ensures .0, c .before .halves-word .ensures .0, c .before .before .cell .ensures .0, c .before .before .before .before .pre .1 .0), search needs)))
+    (λ c. search needs) (λ c κs. search needs) (λ c. search needs) (λ c κs. search needs) (λ c κs. search needs)
+    (λ c. let at-cell = c .before .before in
+    let start = at-cell .before .before in
+    (rw (c .carry-high .ensures .0, c .before .halves-word .ensures .0, at-cell .cell .ensures .0, start .pre .1 .0), search needs)))

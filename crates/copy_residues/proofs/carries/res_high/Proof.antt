@@ -9,10 +9,11 @@ unfolding resHigh
 res-high-spec =
     tie.close
     (tie.spec
+    (λ c κs. search needs) (λ c κs. search needs) (λ c κs. search needs) (λ c. search needs) (λ c κs. search needs)
     (λ c κs. search needs)
-    (λ c κs. search needs)
-    (λ c κs. search needs)
-    (λ c. search needs)
-    (λ c κs. search needs)
-    (λ c κs. search needs)
-    (λ c. (rw (c .carry-high .ensures .0, c .before .halves-word .ensures .0, c .before .before .res-low .ensures .0, c .before .before .before .cell2 .ensures .0, c .before .before .before .before .cell .ensures .0), search needs)))
+    (λ c. let at-res-low = c .before .before in
+    let at-cell = at-res-low .before .before in (
+      rw (c .carry-high .ensures .0, c .before .halves-word .ensures .0, at-res-low .res-low .ensures .0, at-res-low .before .cell2 .ensures .0)
+          (rw (at-cell .cell .ensures .0)),
+      search needs,
+    )))

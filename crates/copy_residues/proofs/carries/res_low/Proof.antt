@@ -9,8 +9,6 @@ unfolding resLow
 res-low-spec =
     tie.close
     (tie.spec
-    (λ c κs. search needs)
-    (λ c κs. search needs)
-    (λ c κs. search needs)
-    (λ c κs. search needs)
-    (λ c. (rw (c .carry-low .ensures .0, c .before .halves-word .ensures .0, c .before .before .cell2 .ensures .0, c .before .before .before .cell .ensures .0), search needs)))
+    (λ c κs. search needs) (λ c κs. search needs) (λ c κs. search needs) (λ c κs. search needs)
+    (λ c. let at-cell2 = c .before .before in
+    (rw (c .carry-low .ensures .0, c .before .halves-word .ensures .0, at-cell2 .cell2 .ensures .0, at-cell2 .before .cell .ensures .0), search needs)))

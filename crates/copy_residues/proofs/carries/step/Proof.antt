@@ -11,26 +11,19 @@ use Rattle.copy_residues.proofs.carries.step.Tie as tie
 width : ℕ → ℕ
 width s = addP 8 (mulP (p - 7) s)
 
-returns : tie.Need-returns
-unfolding step addP mulP width
-returns c = (sym (ap width (sym (c .before .cell .ensures .0) ∙ c .if1 .taken)), search needs)
-
-returns-2 : tie.Need-returns-2
-unfolding step addP mulP width
-returns-2 c = (sym (ap width (sym (c .before .before .cell .ensures .0) ∙ c .if2 .taken)), search needs)
-
 returns-3 : tie.Need-returns-3
 unfolding step
-returns-3 c = (rw (c .add .ensures .0, c .before .mul .ensures .0, c .before .before .before .before .cell .ensures .0), search needs)
+returns-3 c =
+    let at-mul = c .before in
+    (rw (c .add .ensures .0, at-mul .mul .ensures .0, at-mul .before .before .before .cell .ensures .0), search needs)
 
 pub step-spec : {M : Type 1} → statement M
+unfolding step addP mulP width
 step-spec =
     tie.close
     (tie.spec
     (λ c κs. search needs)
-    returns
-    returns-2
-    (λ c. search needs)
-    (λ c κs. search needs)
-    (λ c κs. search needs)
+    (λ c. (sym (ap width (sym (c .before .cell .ensures .0) ∙ c .if1 .taken)), search needs))
+    (λ c. (sym (ap width (sym (c .before .before .cell .ensures .0) ∙ c .if2 .taken)), search needs))
+    (λ c. search needs) (λ c κs. search needs) (λ c κs. search needs)
     returns-3)

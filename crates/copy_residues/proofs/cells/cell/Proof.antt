@@ -7,6 +7,5 @@ pub cell-spec : {M : Type 1} → statement M
 cell-spec =
     tie.close
     (tie.spec
-    (λ c. search needs)
-    (λ c. search needs)
+    (λ c. search needs) (λ c. search needs)
     (λ c. (search needs, c .before .pre .0 .each _)))

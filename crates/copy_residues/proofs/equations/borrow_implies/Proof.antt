@@ -9,7 +9,7 @@ unfolding borrowImplies
 borrow-implies-spec =
     tie.close
     (tie.spec
-    (λ c κs. search needs)
-    (λ c κs. search needs)
-    (λ c κs. search needs)
-    (λ c. rw (c .times .ensures .0, c .before .sub .ensures .0, c .before .before .cell .ensures .0, c .before .before .before .before .pre .1 .0)))
+    (λ c κs. search needs) (λ c κs. search needs) (λ c κs. search needs)
+    (λ c. let at-cell = c .before .before in
+    let start = at-cell .before .before in
+    rw (c .times .ensures .0, c .before .sub .ensures .0, at-cell .cell .ensures .0, start .pre .1 .0)))

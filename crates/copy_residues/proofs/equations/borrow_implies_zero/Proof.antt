@@ -9,6 +9,6 @@ unfolding borrowImpliesZero
 borrow-implies-zero-spec =
     tie.close
     (tie.spec
-    (λ c κs. search needs)
-    (λ c κs. search needs)
-    (λ c. rw (c .times .ensures .0, c .before .cell .ensures .0, c .before .before .before .pre .1 .0)))
+    (λ c κs. search needs) (λ c κs. search needs)
+    (λ c. let start = c .before .before .before in
+    rw (c .times .ensures .0, c .before .cell .ensures .0, start .pre .1 .0)))

@@ -9,13 +9,9 @@ unfolding dstResNonWrite
 dst-res-non-write-spec =
     tie.close
     (tie.spec
-    (λ c. search needs)
-    (λ c. search needs)
-    (λ c κs. search needs)
-    (λ c. search needs)
-    (λ c κs. search needs)
-    (λ c κs. search needs)
-    (λ c κs. search needs)
-    (λ c κs. search needs)
-    (λ c κs. search needs)
-    (λ c. rw (c .times .ensures .0, c .before .sub2 .ensures .0, c .before .before .cell2 .ensures .0, c .before .before .before .sub .ensures .0, c .before .before .before .before .cell .ensures .0, c .before .before .before .before .before .halves-word .ensures .0)))
+    (λ c. search needs) (λ c. search needs) (λ c κs. search needs) (λ c. search needs) (λ c κs. search needs)
+    (λ c κs. search needs) (λ c κs. search needs) (λ c κs. search needs) (λ c κs. search needs)
+    (λ c. let at-cell2 = c .before .before in
+    let at-cell = at-cell2 .before .before in
+    rw (c .times .ensures .0, c .before .sub2 .ensures .0, at-cell2 .cell2 .ensures .0, at-cell2 .before .sub .ensures .0)
+    (rw (at-cell .cell .ensures .0, at-cell .before .halves-word .ensures .0))))

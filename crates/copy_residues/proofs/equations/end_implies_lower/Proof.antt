@@ -9,10 +9,10 @@ unfolding endImplies
 end-implies-lower-spec =
     tie.close
     (tie.spec
+    (λ c κs. search needs) (λ c κs. search needs) (λ c κs. search needs) (λ c κs. search needs) (λ c κs. search needs)
     (λ c κs. search needs)
-    (λ c κs. search needs)
-    (λ c κs. search needs)
-    (λ c κs. search needs)
-    (λ c κs. search needs)
-    (λ c κs. search needs)
-    (λ c. rw (c .times2 .ensures .0, c .before .sub2 .ensures .0, c .before .before .cell2 .ensures .0, c .before .before .before .times .ensures .0, c .before .before .before .before .sub .ensures .0, c .before .before .before .before .before .cell .ensures .0, c .before .before .before .before .before .before .before .pre .1 .0 .0, c .before .before .before .before .before .before .before .pre .1 .1 .0)))
+    (λ c. let at-cell2 = c .before .before in
+    let at-sub = at-cell2 .before .before in
+    let start = at-sub .before .before .before in
+    rw (c .times2 .ensures .0, c .before .sub2 .ensures .0, at-cell2 .cell2 .ensures .0, at-cell2 .before .times .ensures .0)
+    (rw (at-sub .sub .ensures .0, at-sub .before .cell .ensures .0, start .pre .1 .0 .0, start .pre .1 .1 .0))))

@@ -9,9 +9,9 @@ unfolding endImplies
 end-implies-upper-spec =
     tie.close
     (tie.spec
-    (λ c κs. search needs)
-    (λ c κs. search needs)
-    (λ c κs. search needs)
-    (λ c κs. search needs)
-    (λ c κs. search needs)
-    (λ c. rw (c .times2 .ensures .0, c .before .cell2 .ensures .0, c .before .before .times .ensures .0, c .before .before .before .sub .ensures .0, c .before .before .before .before .cell .ensures .0, c .before .before .before .before .before .before .pre .1 .0)))
+    (λ c κs. search needs) (λ c κs. search needs) (λ c κs. search needs) (λ c κs. search needs) (λ c κs. search needs)
+    (λ c. let at-times = c .before .before in
+    let at-cell = at-times .before .before in
+    let start = at-cell .before .before in
+    rw (c .times2 .ensures .0, c .before .cell2 .ensures .0, at-times .times .ensures .0, at-times .before .sub .ensures .0)
+    (rw (at-cell .cell .ensures .0, start .pre .1 .0))))

@@ -9,9 +9,8 @@ unfolding firstWrite
 first-write-spec =
     tie.close
     (tie.spec
-    (λ c κs. search needs)
-    (λ c κs. search needs)
-    (λ c κs. search needs)
-    (λ c κs. search needs)
-    (λ c κs. search needs)
-    (λ c. rw (c .sub .ensures .0, c .before .times .ensures .0, c .before .before .cell3 .ensures .0, c .before .before .before .cell2 .ensures .0, c .before .before .before .before .cell .ensures .0)))
+    (λ c κs. search needs) (λ c κs. search needs) (λ c κs. search needs) (λ c κs. search needs) (λ c κs. search needs)
+    (λ c. let at-cell3 = c .before .before in
+    let at-cell = at-cell3 .before .before in
+    rw (c .sub .ensures .0, c .before .times .ensures .0, at-cell3 .cell3 .ensures .0, at-cell3 .before .cell2 .ensures .0)
+    (rw (at-cell .cell .ensures .0))))

@@ -12,6 +12,6 @@ gap-no-wrap-spec =
     (tie.spec
     (λ c κs. search needs)
     (λ c. shut-gate _ (c .before .cell .ensures .0) (c .if1 .taken))
-    (λ c κs. search needs)
-    (λ c κs. search needs)
-    (λ c. rw (c .mul .ensures .0, c .before .gap-high .ensures .0, c .before .before .before .cell .ensures .0)))
+    (λ c κs. search needs) (λ c κs. search needs)
+    (λ c. let at-cell = c .before .before .before in
+    rw (c .mul .ensures .0, c .before .gap-high .ensures .0, at-cell .cell .ensures .0)))

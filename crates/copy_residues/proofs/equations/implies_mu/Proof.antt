@@ -10,10 +10,9 @@ unfolding impliesMu
 implies-mu-spec =
     tie.close
     (tie.spec
+    (λ c κs. search needs) (λ c κs. search needs) (λ c κs. search needs) (λ c κs. search needs) (λ c κs. search needs)
     (λ c κs. search needs)
-    (λ c κs. search needs)
-    (λ c κs. search needs)
-    (λ c κs. search needs)
-    (λ c κs. search needs)
-    (λ c κs. search needs)
-    (λ c. rw (c .times .ensures .0, c .before .add .ensures .0, c .before .before .cell3 .ensures .0, c .before .before .before .cell2 .ensures .0, c .before .before .before .before .sub .ensures .0, c .before .before .before .before .before .cell .ensures .0) (mulP-comm _ _)))
+    (λ c. let at-cell3 = c .before .before in
+    let at-sub = at-cell3 .before .before in
+    rw (c .times .ensures .0, c .before .add .ensures .0, at-cell3 .cell3 .ensures .0, at-cell3 .before .cell2 .ensures .0)
+    (rw (at-sub .sub .ensures .0, at-sub .before .cell .ensures .0) (mulP-comm _ _))))

@@ -12,10 +12,10 @@ unfolding muComIs
 mu-com-spec =
     tie.close
     (tie.spec
+    (λ c κs. search needs) (λ c κs. search needs) (λ c κs. search needs) (λ c κs. search needs) (λ c κs. search needs)
     (λ c κs. search needs)
-    (λ c κs. search needs)
-    (λ c κs. search needs)
-    (λ c κs. search needs)
-    (λ c κs. search needs)
-    (λ c κs. search needs)
-    (λ c. rw (c .sub2 .ensures .0, c .before .cell3 .ensures .0, c .before .before .times .ensures .0, c .before .before .before .sub .ensures .0, c .before .before .before .before .cell2 .ensures .0, c .before .before .before .before .before .cell .ensures .0, c .before .before .before .before .before .before .before .pre .1 .0) (ap (subP _) (mulP-comm _ _))))
+    (λ c. let at-times = c .before .before in
+    let at-cell2 = at-times .before .before in
+    let start = at-cell2 .before .before .before in
+    rw (c .sub2 .ensures .0, c .before .cell3 .ensures .0, at-times .times .ensures .0, at-times .before .sub .ensures .0)
+    (rw (at-cell2 .cell2 .ensures .0, at-cell2 .before .cell .ensures .0, start .pre .1 .0) (ap (subP _) (mulP-comm _ _)))))

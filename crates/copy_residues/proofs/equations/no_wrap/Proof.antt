@@ -10,7 +10,7 @@ unfolding noWrap
 no-wrap-spec =
     tie.close
     (tie.spec
-    (λ c κs. search needs)
-    (λ c κs. search needs)
-    (λ c κs. search needs)
-    (λ c. rw (c .times .ensures .0, c .before .sub .ensures .0, c .before .before .cell .ensures .0, c .before .before .before .before .pre .1 .0 .0, c .before .before .before .before .pre .1 .1 .0) (mulP-comm _ _)))
+    (λ c κs. search needs) (λ c κs. search needs) (λ c κs. search needs)
+    (λ c. let at-cell = c .before .before in
+    let start = at-cell .before .before in
+    rw (c .times .ensures .0, c .before .sub .ensures .0, at-cell .cell .ensures .0, start .pre .1 .0 .0, start .pre .1 .1 .0) (mulP-comm _ _)))

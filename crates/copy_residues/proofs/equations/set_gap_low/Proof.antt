@@ -12,7 +12,7 @@ set-gap-low-spec =
     (tie.spec
     (λ c κs. search needs)
     (λ c. shut-gate _ (c .before .cell .ensures .0) (c .if1 .taken))
-    (λ c κs. search needs)
-    (λ c κs. search needs)
-    (λ c κs. search needs)
-    (λ c. rw (c .mul .ensures .0, c .before .is-bit .ensures .0, c .before .before .gap-low .ensures .0, c .before .before .before .before .cell .ensures .0)))
+    (λ c κs. search needs) (λ c κs. search needs) (λ c κs. search needs)
+    (λ c. let at-gap-low = c .before .before in
+    let at-cell = at-gap-low .before .before in
+    rw (c .mul .ensures .0, c .before .is-bit .ensures .0, at-gap-low .gap-low .ensures .0, at-cell .cell .ensures .0)))

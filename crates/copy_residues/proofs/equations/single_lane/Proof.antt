@@ -9,7 +9,5 @@ unfolding singleLane
 single-lane-spec =
     tie.close
     (tie.spec
-    (λ c κs. search needs)
-    (λ c κs. search needs)
-    (λ c κs. search needs)
+    (λ c κs. search needs) (λ c κs. search needs) (λ c κs. search needs)
     (λ c. rw (c .times .ensures .0, c .before .cell2 .ensures .0, c .before .before .cell .ensures .0)))

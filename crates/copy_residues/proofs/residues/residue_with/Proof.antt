@@ -24,51 +24,20 @@ last c = let h = past _ 29 10 _ (c .if1 .left) (c .before .match .rest) in omega
 within : (i : ℕ) → i < 29 → i - 19 < COLUMNS
 within i h = omega arith
 
-sub-single-lane : tie.Need-sub-single-lane
-sub-single-lane c = omega (arith, low c)
-
-single-lane-requires : tie.Need-single-lane-requires
-single-lane-requires c κs = (c .before .before .before .pre .0, within _ (c .if1 .taken))
-
 pub residue-with-spec : {M : Type 1} → statement M
 unfolding residue
 residue-with-spec =
     tie.close
     (tie.spec
-    (λ c κs. search needs)
-    (λ c κs. search needs)
-    (λ c κs. search needs)
-    (λ c κs. search needs)
-    (λ c κs. search needs)
-    (λ c κs. search needs)
-    (λ c κs. search needs)
-    (λ c κs. search needs)
-    (λ c κs. search needs)
-    (λ c κs. search needs)
-    (λ c κs. search needs)
-    (λ c κs. search needs)
-    (λ c κs. search needs)
-    (λ c κs. search needs)
-    (λ c κs. search needs)
-    (λ c κs. search needs)
-    (λ c κs. search needs)
-    (λ c κs. search needs)
-    (λ c κs. search needs)
-    (λ c κs. search needs)
-    (λ c κs. search needs)
-    (λ c κs. search needs)
-    (λ c κs. search needs)
-    (λ c κs. search needs)
-    (λ c κs. search needs)
-    (λ c κs. search needs)
-    (λ c κs. search needs)
-    (λ c κs. search needs)
-    (λ c κs. search needs)
-    (λ c κs. search needs)
-    (λ c κs. search needs)
-    (λ c κs. search needs)
-    sub-single-lane
-    single-lane-requires
+    (λ c κs. search needs) (λ c κs. search needs) (λ c κs. search needs) (λ c κs. search needs) (λ c κs. search needs)
+    (λ c κs. search needs) (λ c κs. search needs) (λ c κs. search needs) (λ c κs. search needs) (λ c κs. search needs)
+    (λ c κs. search needs) (λ c κs. search needs) (λ c κs. search needs) (λ c κs. search needs) (λ c κs. search needs)
+    (λ c κs. search needs) (λ c κs. search needs) (λ c κs. search needs) (λ c κs. search needs) (λ c κs. search needs)
+    (λ c κs. search needs) (λ c κs. search needs) (λ c κs. search needs) (λ c κs. search needs) (λ c κs. search needs)
+    (λ c κs. search needs) (λ c κs. search needs) (λ c κs. search needs) (λ c κs. search needs) (λ c κs. search needs)
+    (λ c κs. search needs) (λ c κs. search needs)
+    (λ c. omega (arith, low c))
+    (λ c κs. (c .before .before .before .pre .0, within _ (c .if1 .taken)))
     (λ c κs. search needs)
     (λ c. rw (c .before .match .keys1) (c .bit .ensures))
     (λ c. rw (c .before .match .keys2) (c .bit2 .ensures))
@@ -80,12 +49,13 @@ residue-with-spec =
     (λ c. rw (c .before .match .keys8) (c .one-hot .ensures))
     (λ c. rw (c .before .match .keys9) (c .implies-mu2 .ensures))
     (λ c. rw (c .before .match .keys10) (c .first-write .ensures))
-    (λ c. rw (c .before .match .keys11) (c .is-bit .ensures .0 ∙ ap bitP (c .before .before .before .pre .1 .is-src-low .0)))
-    (λ c. rw (c .before .match .keys12) (c .is-bit2 .ensures .0 ∙ ap bitP (c .before .before .before .pre .1 .is-src-high .0)))
-    (λ c. rw (c .before .match .keys13) (c .is-bit3 .ensures .0 ∙ ap bitP (c .before .before .before .pre .1 .is-dst-low .0)))
-    (λ c. rw (c .before .match .keys14) (c .is-bit4 .ensures .0 ∙ ap bitP (c .before .before .before .pre .1 .is-dst-high .0)))
-    (λ c. rw (c .before .match .keys15) (c .is-bit5 .ensures .0 ∙ ap bitP (c .before .before .before .pre .1 .is-count-low .0)))
-    (λ c. rw (c .before .match .keys16) (c .is-bit6 .ensures .0 ∙ ap bitP (c .before .before .before .pre .1 .is-borrow .0 ∙ carried (c .before .before .before .pre .0))))
+    (λ c. let arm = c .before in rw (arm .match .keys11) (c .is-bit .ensures .0 ∙ ap bitP (arm .before .before .pre .1 .is-src-low .0)))
+    (λ c. let arm = c .before in rw (arm .match .keys12) (c .is-bit2 .ensures .0 ∙ ap bitP (arm .before .before .pre .1 .is-src-high .0)))
+    (λ c. let arm = c .before in rw (arm .match .keys13) (c .is-bit3 .ensures .0 ∙ ap bitP (arm .before .before .pre .1 .is-dst-low .0)))
+    (λ c. let arm = c .before in rw (arm .match .keys14) (c .is-bit4 .ensures .0 ∙ ap bitP (arm .before .before .pre .1 .is-dst-high .0)))
+    (λ c. let arm = c .before in rw (arm .match .keys15) (c .is-bit5 .ensures .0 ∙ ap bitP (arm .before .before .pre .1 .is-count-low .0)))
+    (λ c. let arm = c .before in let pre = arm .before .before .pre in
+    rw (arm .match .keys16) (c .is-bit6 .ensures .0 ∙ ap bitP (pre .1 .is-borrow .0 ∙ carried (pre .0))))
     (λ c. rw (c .before .match .keys17) (c .dst-res-low .ensures))
     (λ c. rw (c .before .match .keys18) (c .dst-res-high .ensures))
     (λ c. rw (c .before .match .keys19) (c .dst-res-non-write .ensures))

@@ -9,7 +9,7 @@ use Rattle.lists.specs.Lists.{eightAt}
 use Rattle.lists.proofs.Numbers.{numbersAt}
 use Rattle.words.specs.Words.{words, halves, bit}
 use Rattle.call.specs.Calls.{Op}
-use Rattle.copy_row.specs.Rows.{operation, wrapped, dstRes, muCom, rowOf, tableRow}
+use Rattle.copy_row.specs.Rows.{copyOperation, wrapped, dstRes, muCom, rowOf, tableRow}
 use Rattle.copy_row.proofs.row.cells.Statement.{statement}
 use Rattle.copy_row.proofs.row.cells.Tie as tie
 
@@ -31,24 +31,27 @@ returns : tie.Need-returns
 returns c =
     let at-com = c .before .before in
     let at-write = at-com .before .before .before in
-    let at-single = at-write .before .before .before .before in
-    let at-res = at-single .before .before .before .before in
-    let at-count = at-res .before .before .before .before in
+    let at-set = at-write .before .before in
+    let at-single = at-set .before .before in
+    let at-known2 = at-single .before .before in
+    let at-res = at-known2 .before .before in
+    let at-decr = at-res .before .before in
+    let at-count = at-decr .before .before in
     let at-dst = at-count .before .before .before in
     let at-src = at-dst .before .before .before in
     let at-stamp = at-src .before .before in
     row-of
-    (operation (at-stamp .before .args .op))
+    (copyOperation (at-stamp .before .args .op))
     (at-stamp .words .ensures)
     (at-src .words2 .ensures)
     (at-dst .before .halves .ensures ∙ ap halves (at-dst .before .before .wrapping-add .ensures))
     (at-dst .words3 .ensures)
     (at-count .before .halves2 .ensures ∙ ap halves (at-count .before .before .wrapping-add2 .ensures))
     (at-count .words4 .ensures)
-    (at-res .before .before .halves3 .ensures ∙ ap halves (at-res .before .before .before .wrapping-sub .ensures))
+    (at-decr .halves3 .ensures ∙ ap halves (at-decr .before .wrapping-sub .ensures))
     (at-res .halves4 .ensures ∙ ap halves (at-res .before .dst-res .ensures))
     (at-single .bit .ensures)
-    (at-write .before .before .bit2 .ensures)
+    (at-set .bit2 .ensures)
     (at-write .bit3 .ensures)
     (at-com .before .when .ensures)
     (at-com .bit4 .ensures)
@@ -58,54 +61,14 @@ pub cells-spec : {M : Type 1} → statement M
 cells-spec =
     tie.close
     (tie.spec
-    (λ c κs. search needs)
-    (λ c κs. search needs)
-    (λ c κs. search needs)
-    (λ c κs. search needs)
-    (λ c κs. search needs)
-    (λ c κs. search needs)
-    (λ c κs. search needs)
-    (λ c κs. search needs)
-    (λ c κs. search needs)
-    (λ c κs. search needs)
-    (λ c κs. search needs)
-    (λ c κs. search needs)
-    (λ c. search needs)
-    (λ c. search needs)
-    (λ c. search needs)
-    (λ c. search needs)
-    (λ c. search needs)
-    (λ c. search needs)
-    (λ c. search needs)
-    (λ c. search needs)
-    (λ c. search needs)
-    (λ c. search needs)
-    (λ c. search needs)
-    (λ c. search needs)
-    (λ c. search needs)
-    (λ c. search needs)
-    (λ c. search needs)
-    (λ c. search needs)
-    (λ c. search needs)
-    (λ c. search needs)
-    (λ c. search needs)
-    (λ c. search needs)
-    (λ c. search needs)
-    (λ c. search needs)
-    (λ c. search needs)
-    (λ c. search needs)
-    (λ c. search needs)
-    (λ c. search needs)
-    (λ c. search needs)
-    (λ c. search needs)
-    (λ c. search needs)
-    (λ c. search needs)
-    (λ c. search needs)
-    (λ c. search needs)
-    (λ c κs. search needs)
-    (λ c κs. search needs)
-    (λ c κs. search needs)
-    (λ c κs. search needs)
-    (λ c κs. search needs)
-    (λ c κs. search needs)
+    (λ c κs. search needs) (λ c κs. search needs) (λ c κs. search needs) (λ c κs. search needs) (λ c κs. search needs)
+    (λ c κs. search needs) (λ c κs. search needs) (λ c κs. search needs) (λ c κs. search needs) (λ c κs. search needs)
+    (λ c κs. search needs) (λ c κs. search needs) (λ c. search needs) (λ c. search needs) (λ c. search needs)
+    (λ c. search needs) (λ c. search needs) (λ c. search needs) (λ c. search needs) (λ c. search needs)
+    (λ c. search needs) (λ c. search needs) (λ c. search needs) (λ c. search needs) (λ c. search needs)
+    (λ c. search needs) (λ c. search needs) (λ c. search needs) (λ c. search needs) (λ c. search needs)
+    (λ c. search needs) (λ c. search needs) (λ c. search needs) (λ c. search needs) (λ c. search needs)
+    (λ c. search needs) (λ c. search needs) (λ c. search needs) (λ c. search needs) (λ c. search needs)
+    (λ c. search needs) (λ c. search needs) (λ c. search needs) (λ c. search needs) (λ c κs. search needs)
+    (λ c κs. search needs) (λ c κs. search needs) (λ c κs. search needs) (λ c κs. search needs) (λ c κs. search needs)
     returns)

@@ -7,16 +7,13 @@ use Rattle.copy_row.proofs.row.write_row.Tie as tie
 
 returns : tie.Need-returns
 returns c =
-    let at-cells = c .before .before .before .before .before in
-    c .before .before .put .ensures ∙ at-cells .cells .ensures ∙ ap tableRow (at-cells .before .operation .ensures)
+    let at-put = c .before .before in
+    let at-cells = at-put .before .before .before in
+    at-put .put .ensures ∙ at-cells .cells .ensures ∙ ap tableRow (at-cells .before .operation .ensures)
 
 pub write-row-spec : {M : Type 1} → statement M
 write-row-spec =
     tie.close
     (tie.spec
-    (λ c κs. search needs)
-    (λ c κs. search needs)
-    (λ c. search needs)
-    (λ c κs. search needs)
-    (λ c. search needs)
+    (λ c κs. search needs) (λ c κs. search needs) (λ c. search needs) (λ c κs. search needs) (λ c. search needs)
     returns)

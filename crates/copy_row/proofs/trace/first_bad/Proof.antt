@@ -51,7 +51,6 @@ first-bad-spec =
     (λ c κs. omega arith)
     (λ c κs. search needs)
     returns
-    (λ c. search needs)
-    (λ c. search needs)
+    (λ c. search needs) (λ c. search needs)
     loop-again
     returns-2)

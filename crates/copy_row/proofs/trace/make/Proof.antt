@@ -18,34 +18,37 @@ use Rattle.copy_row.proofs.trace.make.Tie as tie
 write-rows-requires : tie.Need-write-rows-requires
 write-rows-requires c κs =
     let told = c .before .before in
-    let args = told .before .before .before .before .before .args in
+    let answered = told .before .before in
+    let args = answered .before .before .before .args in
     let ops = now (args .ops) in
     let room = length (now (args .table)) in
-    let made = sym (told .before .before .copy-answer .ensures) ∙ told .answer .given .1 in
+    let made = sym (answered .copy-answer .ensures) ∙ told .answer .given .1 in
     (made-whole (args .limit) ops room _ made, made-facts (args .limit) ops room _ made .fits)
 
 returns : tie.Need-returns
 returns c =
-    let told = c .before .before .before .before .before in
-    let args = told .before .before .before .before .before .args in
-    let made = sym (told .answer .given .1) ∙ told .before .before .copy-answer .ensures in
+    let wrote = c .before .before in
+    let told = wrote .before .before .before in
+    let answered = told .before .before in
+    let args = answered .before .before .before .args in
+    let made = sym (told .answer .given .1) ∙ answered .copy-answer .ensures in
     let after : TableAnswer → List ℕ = λ a. copyAfter (now (args .ops)) a (now (args .table)) in
-    (made, c .before .before .write-rows .ensures ∙ ap after made)
+    (made, wrote .write-rows .ensures ∙ ap after made)
 
 returns-2 : tie.Need-returns-2
 unfolding copyAfter
 returns-2 c =
-    let args = c .before .before .before .before .args in
-    let answered = c .before .copy-answer .ensures in
+    let answered = c .before in
+    let args = answered .before .before .before .args in
+    let made = answered .copy-answer .ensures in
     let after : TableAnswer → List ℕ = λ a. copyAfter (now (args .ops)) a (now (args .table)) in
-    (answered, refused-keeps OP-WIDTH copyRow paddingRow (now (args .ops)) (now (args .table)) _ (c .match .keys2) ∙ ap after answered)
+    (made, refused-keeps OP-WIDTH copyRow paddingRow (now (args .ops)) (now (args .table)) _ (c .match .keys2) ∙ ap after made)
 
 pub make-spec : {M : Type 1} → statement M
 make-spec =
     tie.close
     (tie.spec
-    (λ c κs. search needs)
-    (λ c. search needs)
+    (λ c κs. search needs) (λ c. search needs)
     write-rows-requires
     (λ c. search needs)
     returns

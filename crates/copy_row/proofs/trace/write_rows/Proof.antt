@@ -34,7 +34,8 @@ write-row-requires c κs = (
 loop-again : tie.Need-loop-again Inv-loop μ-loop
 loop-again c =
     let at = c .before .before in
-    let start = at .before .before .before .before in
+    let at-count = at .before in
+    let start = at-count .before .before .before in
     let ops = now (start .args .ops) in
     let table₀ = now (start .args .table) in
     let k = at .loop .k in
@@ -51,8 +52,11 @@ loop-again c =
 
 returns : tie.Need-returns Inv-loop μ-loop
 returns c =
-    let e : c .before .loop .k ≡ c .before .before .before .before .before .args .rows = omega arith in
-    rw e at (c .before .loop .inv .2)
+    let at = c .before in
+    let at-count = at .before in
+    let start = at-count .before .before .before in
+    let e : at .loop .k ≡ start .args .rows = omega arith in
+    rw e at (at .loop .inv .2)
 
 pub write-rows-spec : {M : Type 1} → statement M
 write-rows-spec =
@@ -62,25 +66,14 @@ write-rows-spec =
     μ-loop
     (λ c κs. search needs)
     loop-holds
-    (λ c. search needs)
-    (λ c. search needs)
-    (λ c. search needs)
-    (λ c. search needs)
-    (λ c. search needs)
-    (λ c. search needs)
-    (λ c. search needs)
+    (λ c. search needs) (λ c. search needs) (λ c. search needs) (λ c. search needs) (λ c. search needs)
+    (λ c. search needs) (λ c. search needs)
     (λ c κs. omega arith)
     write-row-requires
-    (λ c. search needs)
-    (λ c. search needs)
-    (λ c. search needs)
-    (λ c. search needs)
-    (λ c. search needs)
-    (λ c. search needs)
-    (λ c. search needs)
+    (λ c. search needs) (λ c. search needs) (λ c. search needs) (λ c. search needs) (λ c. search needs)
+    (λ c. search needs) (λ c. search needs)
     (λ c κs. simp (length-take, length-drop) (omega arith))
-    (λ c. search needs)
-    (λ c. search needs)
+    (λ c. search needs) (λ c. search needs)
     loop-again
     (λ c. search needs)
     returns)

@@ -1,14 +1,13 @@
 -- `expansion::expand::expand` meets its contract. Where the answer is Expanded, what it says of the call is what `move_call` requires; any
 -- other answer leaves the four slices as they were. Assumes nothing.
 use borrow.Author.Needs.{needs}
-use mathlib.Core.Path.{_≡_, sym, ap, _∙_}
+use mathlib.Core.Path.{sym, ap, _∙_}
 use Prim.Native.Nat.{_^_, _<_}
 use native.Mathlib.Omega.{arith}
 use denote.Ref.{now}
 use Rattle.call.specs.Calls.{callOf}
-use Rattle.expansion.specs.Tries.{Setting, setting, Lent, lent, Try, tryOf}
+use Rattle.expansion.specs.Tries.{Setting, setting, lent, Try, tryOf}
 use Rattle.expansion.specs.Refusals.{expansionNumbers}
-use Rattle.expansion.specs.declared.ExpansionAnswer.{ExpansionAnswer}
 use Rattle.expansion.proofs.Outcome.{taken-as, refused-as}
 use Rattle.expansion.proofs.Moved.{fair-inside}
 use Rattle.expansion.proofs.expand.expand.Statement.{statement}
@@ -30,13 +29,20 @@ dst-fits start = search needs
 
 -- places: the entry seen from the answer, the answer seen from the call of `move_call`, that call seen from the end
 abbrev start-of : tie.After-expansion-answer → tie.Start
-start-of c = let known = c .before .before .before in known .before .before
+start-of c =
+    let known = c .before .before .before in
+    known .before .before
 
 abbrev told-of : tie.After-move-call-arg4 → tie.After-answer
-told-of c = let lent-first = c .before .before .before in lent-first .before .before
+told-of c =
+    let lent-first = c .before .before .before in
+    lent-first .before .before
 
 abbrev moved-of : tie.After-slice-known8 → tie.After-move-call
-moved-of c = let ops-back = c .before .before .before in let bytes-known = ops-back .before .before .before in bytes-known .before .before
+moved-of c =
+    let ops-back = c .before .before .before in
+    let bytes-known = ops-back .before .before .before in
+    bytes-known .before .before
 
 move-call-requires : tie.Need-move-call-requires
 move-call-requires c κs =
@@ -78,12 +84,8 @@ pub expand-spec : {M : Type 1} → statement M
 expand-spec =
     tie.close
     (tie.spec
-    (λ c κs. search needs)
-    (λ c. search needs)
+    (λ c κs. search needs) (λ c. search needs)
     move-call-requires
-    (λ c. search needs)
-    (λ c. search needs)
-    (λ c. search needs)
-    (λ c. search needs)
+    (λ c. search needs) (λ c. search needs) (λ c. search needs) (λ c. search needs)
     returns
     returns-2)

@@ -5,12 +5,12 @@ use mathlib.Core.Bool.{Bool, false}
 use Prim.Native.Nat.{ℕ, _^_, _≤_, _<_}
 use native.Mathlib.Omega.{arith}
 use borrow.Author.Tests.{le-leb, lt-leb, eq-eqb, ne-eqb, ltb-false}
-use Rattle.answer.specs.declared.Answer.{Answer}
 use Rattle.lists.proofs.Tests.{neither}
 use Rattle.call.specs.Calls.{Call, callOf}
 use Rattle.expansion.specs.Tries.{Setting, setting, Lengths, lengthsAre}
-use Rattle.expansion.specs.Refusals.{opCount, accessCount, gapTooLarge, badWindow, lastStamp, notGapApart, pastIndex, outsideWindow, bufferShort, refusals, answerBy, withAccesses}
-use Rattle.expansion.proofs.Judged.{Fair, Room, Passes, passes-fair, fair-short, fair-accepted, count-fits, source-fits, dest-fits}
+use Rattle.expansion.specs.Refusals.{opCount, accessCount, gapTooLarge, badWindow, lastStamp, notGapApart, pastIndex, outsideWindow}
+use Rattle.expansion.specs.Refusals.{bufferShort, refusals, answerBy, withAccesses}
+use Rattle.expansion.proofs.Judged.{Fair, Room, passes-fair, fair-short, fair-accepted, count-fits, source-fits, dest-fits}
 use Rattle.expansion.proofs.judge.expansion_answer.Statement.{statement}
 use Rattle.expansion.proofs.judge.expansion_answer.Tie as tie
 
@@ -26,7 +26,9 @@ n-of c = lengthsAre (c .args .cells) (c .args .stamped) (c .args .ops-room) (c .
 
 -- the places where each test has failed, and the entry seen from them
 abbrev start-3 : tie.Else3 → tie.Start
-start-3 c = c .before .before .before .before
+start-3 c =
+    let past-two = c .before .before in
+    past-two .before .before
 
 abbrev start-4 : tie.Else4 → tie.Start
 start-4 c = start-3 (c .before .before)
@@ -40,7 +42,7 @@ start-6 c = start-5 (c .before .before)
 t₇ : (c : tie.Else1) → gapTooLarge (c .before .args .gap) ≡ false
 t₇ c = lt-leb _ _ (c .if1 .left)
 
-t₈ : (c : tie.Else2) → badWindow (c .before .before .args .limit) (n-of (c .before .before)) ≡ false
+t₈ : (c : tie.Else2) → let start = c .before .before in badWindow (start .args .limit) (n-of start) ≡ false
 t₈ c = c .if2 .left
 
 t₁ : (c : tie.Else3) → lastStamp (c-of (start-3 c)) ≡ false

@@ -8,6 +8,7 @@ use denote.Ref.{now}
 use lib.ListN.{length, drop, set, replicate, length-set}
 use Rattle.lists.specs.Lists.{store, eightAt}
 use Rattle.lists.proofs.Store.{store-turn, store-end, store-all}
+use Rattle.words.proofs.Digits.{below-at}
 use Rattle.window.proofs.Window.{value-at}
 use Rattle.expansion_rows.proofs.held.value_bytes.Statement.{statement}
 use Rattle.expansion_rows.proofs.held.value_bytes.Tie as tie
@@ -26,7 +27,7 @@ cast-out c =
     let op = now ((c .before .before .before .args) .op) in
     let i = (c .before .before .loop) .i in
     let h : i < 8 = search needs in
-    omega (arith, (c .before .before .before .pre) .1 i h, value-at op i h)
+    omega (arith, below-at 8 (eightAt op 8) i ((c .before .before .before .pre) .1), value-at op i h)
 
 loop-again : tie.Need-loop-again Inv-loop μ-loop
 loop-again c =
@@ -52,12 +53,8 @@ value-bytes-spec =
     Inv-loop
     μ-loop
     loop-holds
-    (λ c. search needs)
-    (λ c. search needs)
-    (λ c. search needs)
+    (λ c. search needs) (λ c. search needs) (λ c. search needs)
     cast-out
-    (λ c. search needs)
-    (λ c. search needs)
-    (λ c. search needs)
+    (λ c. search needs) (λ c. search needs) (λ c. search needs)
     loop-again
     returns)

@@ -5,13 +5,11 @@ use Rattle.field.specs.Field.{addP}
 use Rattle.field.proofs.element.add.Statement.{statement}
 use Rattle.field.proofs.element.add.Tie as tie
 
-returns : tie.Need-returns
-unfolding addP
-returns c = omega arith
-
-returns-2 : tie.Need-returns-2
-unfolding addP
-returns-2 c = omega arith
-
 pub add-spec : {M : Type 1} → statement M
-add-spec = tie.close (tie.spec (λ c. search needs) (λ c. search needs) returns returns-2)
+unfolding addP
+add-spec =
+    tie.close
+    (tie.spec
+    (λ c. search needs) (λ c. search needs)
+    (λ c. omega arith)
+    (λ c. omega arith))

@@ -6,12 +6,11 @@ use Rattle.field.proofs.Laws.{bit-zero}
 use Rattle.field.proofs.element.is_bit.Statement.{statement}
 use Rattle.field.proofs.element.is_bit.Tie as tie
 
-returns : tie.Need-returns
-returns c = (sym (bit-zero _ (c .if1 .taken)), search needs)
-
-returns-2 : tie.Need-returns-2
-unfolding bitP
-returns-2 c = (c .mul .ensures .0 ∙ ap (mulP _) (c .before .sub .ensures .0), search needs)
-
 pub is-bit-spec : {M : Type 1} → statement M
-is-bit-spec = tie.close (tie.spec (λ c κs. search needs) (λ c κs. search needs) returns returns-2)
+unfolding bitP
+is-bit-spec =
+    tie.close
+    (tie.spec
+    (λ c κs. search needs) (λ c κs. search needs)
+    (λ c. (sym (bit-zero _ (c .if1 .taken)), search needs))
+    (λ c. (c .mul .ensures .0 ∙ ap (mulP _) (c .before .sub .ensures .0), search needs)))

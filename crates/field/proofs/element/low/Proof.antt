@@ -17,8 +17,8 @@ mul-low-low c = omega (arith, low-low (c .before .args .a) (c .before .args .b))
 
 returns : tie.Need-returns
 returns c =
-    c .wrapping-add-u642 .ensures
-    ∙ lower _ _ _ _ _ _ (halves (c .before .before .args .a) (c .before .before .args .b)) (c .before .wrapping-add-u64 .ensures)
+    let a = c .before .before .args in
+    c .wrapping-add-u642 .ensures ∙ lower _ _ _ _ _ _ (halves (a .a) (a .b)) (c .before .wrapping-add-u64 .ensures)
 
 pub low-spec : {M : Type 1} → statement M
 low-spec =

@@ -10,7 +10,8 @@ use Rattle.field.proofs.element.mul.Tie as tie
 returns : tie.Need-returns
 unfolding mulP
 returns c =
-    let n : ℕ = c .before .before .before .args .a * c .before .before .before .args .b in (
+    let factors = c .before .before .before .args in
+    let n : ℕ = factors .a * factors .b in (
       c .reduce .ensures .0
           ∙ ap (λ (x : ℕ). x % p) ((λ i. c .before .before .high .ensures i * 2 ^ 64 + c .before .low .ensures i) ∙ div-add-mod' n (2 ^ 64)),
       c .reduce .ensures .1,

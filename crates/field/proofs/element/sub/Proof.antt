@@ -5,13 +5,11 @@ use Rattle.field.specs.Field.{subP}
 use Rattle.field.proofs.element.sub.Statement.{statement}
 use Rattle.field.proofs.element.sub.Tie as tie
 
-returns : tie.Need-returns
-unfolding subP
-returns c = omega arith
-
-returns-2 : tie.Need-returns-2
-unfolding subP
-returns-2 c = omega arith
-
 pub sub-spec : {M : Type 1} → statement M
-sub-spec = tie.close (tie.spec (λ c. search needs) (λ c. search needs) returns returns-2)
+unfolding subP
+sub-spec =
+    tie.close
+    (tie.spec
+    (λ c. search needs) (λ c. search needs)
+    (λ c. omega arith)
+    (λ c. omega arith))

@@ -1,6 +1,6 @@
 -- `slices::put_at`: the part that was lent comes back as it was put. Assumes nothing.
-use mathlib.Core.Path.{_≡_, refl, ap, _∙_}
-use mathlib.Core.List.{List, _++_}
+use mathlib.Core.Path.{_≡_, refl, _∙_}
+use mathlib.Core.List.{_++_}
 use Prim.Native.Nat.{_+_, _-_}
 use native.Mathlib.Omega.{arith}
 use borrow.Author.Needs.{needs}
@@ -12,19 +12,16 @@ use Rattle.lists.proofs.slices.put_at.Tie as tie
 
 -- Places: the part is lent; the entry
 abbrev entry-of : tie.After-put → tie.Start
-entry-of c = let lent = c .before in lent .before .before .before
+entry-of c =
+    let lent = c .before in
+    lent .before .before .before
 
 pub put-at-spec : {M : Type 1} → statement M
 put-at-spec =
     tie.close
     (tie.spec
-    (λ c. search needs)
-    (λ c. search needs)
-    (λ c. search needs)
-    (λ c. search needs)
-    (λ c. search needs)
-    (λ c κs. search needs)
-    (λ c. search needs)
+    (λ c. search needs) (λ c. search needs) (λ c. search needs) (λ c. search needs) (λ c. search needs)
+    (λ c κs. search needs) (λ c. search needs)
     (λ c.
     let put = c .before .before in
     let a = entry-of put .args in

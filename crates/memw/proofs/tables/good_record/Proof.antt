@@ -12,13 +12,8 @@ pub good-record-spec : {M : Type 1} → statement M
 good-record-spec =
     tie.close
     (tie.spec
-    (λ c. search needs)
-    (λ c κs. search needs)
-    (λ c. search needs)
-    (λ c κs. search needs)
-    (λ c. search needs)
-    (λ c. search needs)
-    (λ c κs. search needs)
+    (λ c. search needs) (λ c κs. search needs) (λ c. search needs) (λ c κs. search needs) (λ c. search needs)
+    (λ c. search needs) (λ c κs. search needs)
     (λ c. rw (c .before .enum-told .given .1) (c .good-access .ensures))
     (λ c. rw (c .before .enum-told2 .given .1) (c .good-access2 .ensures))
     returns-3)

@@ -8,7 +8,8 @@ use denote.Ref.{now}
 use Rattle.lists.specs.Lists.{first}
 use Rattle.records.specs.Records.{recordCount, recordAt, firstBad}
 use Rattle.records.proofs.Records.{badAt, bad-start, bad-pass, bad-stop, bad-end, record-within}
-use Rattle.memw.specs.Tables.{recordWidth, goodRecord}
+use Rattle.access.specs.Tables.{recordWidth}
+use Rattle.memw.specs.Tables.{goodRecord}
 use Rattle.memw.proofs.AccessTables.{record-width-bounds}
 use Rattle.memw.proofs.trace.first_bad.Statement.{statement}
 use Rattle.memw.proofs.trace.first_bad.Tie as tie
@@ -25,30 +26,39 @@ abbrev μ-loop : tie.MeasureT-loop
 record-at-requires : tie.Need-record-at-requires Inv-loop μ-loop
 record-at-requires c κs =
     let entry = c .before .before .before in
-    let begins = record-within (recordWidth (entry .args .t)) (now (entry .args .records)) (c .before .loop .k) (record-width-bounds (entry .args .t) .0) (omega arith) in
+    let t = entry .args .t in
+    let begins = record-within (recordWidth t) (now (entry .args .records)) (c .before .loop .k) (record-width-bounds t .0) (omega arith) in
     rw (entry .pre .0) (omega (arith, begins))
+
+-- places: the loop, seen from the verdict on record k; the entry, seen from the loop
+abbrev loop-of : tie.After-good-record Inv-loop μ-loop → tie.At-loop Inv-loop μ-loop
+loop-of c = c .before .before .before
+
+abbrev entry-of : tie.At-loop Inv-loop μ-loop → tie.Start Inv-loop μ-loop
+entry-of c = c .before .before
 
 -- what the record at `k` was found to be
 judged : (c : tie.After-good-record Inv-loop μ-loop)
-    → c .good-record .result
-    ≡ goodRecord (c .before .before .before .before .before .args .t)
-    (recordAt (recordWidth (c .before .before .before .before .before .args .t)) (now (c .before .before .before .before .before .args .records)) (c .before .before .before .loop .k))
+    → let a = entry-of (loop-of c) .args in
+    c .good-record .result ≡ goodRecord (a .t) (recordAt (recordWidth (a .t)) (now (a .records)) (loop-of c .loop .k))
 judged c =
-    let entry = c .before .before .before .before .before in
+    let entry = entry-of (loop-of c) in
     let records = now (entry .args .records) in
     c .good-record .ensures
-    ∙ ap (goodRecord (entry .args .t)) (c .before .record-at .ensures ∙ ap (λ w. recordAt w records (c .before .before .before .loop .k)) (entry .pre .0))
+    ∙ ap (goodRecord (entry .args .t)) (c .before .record-at .ensures ∙ ap (λ w. recordAt w records (loop-of c .loop .k)) (entry .pre .0))
 
 returns : tie.Need-returns Inv-loop μ-loop
 returns c =
-    let at = c .before .before .before .before in
+    let at-loop-test = c .before .before .before in
+    let at = at-loop-test .before in
     let args = at .before .before .args in
     let bad = sym (judged (c .before)) ∙ not-true _ (c .if1 .taken) in
     sym (at .loop .inv .1 ∙ bad-stop (recordWidth (args .t)) (goodRecord (args .t)) (now (args .records)) (at .loop .k) (omega arith) bad)
 
 loop-again : tie.Need-loop-again Inv-loop μ-loop
 loop-again c =
-    let at = c .before .before .before .before in
+    let at-loop-test = c .before .before .before in
+    let at = at-loop-test .before in
     let args = at .before .before .args in
     let good = sym (judged (c .before)) ∙ not-false _ (c .if1 .left) in
     (omega arith, at .loop .inv .1 ∙ bad-pass (recordWidth (args .t)) (goodRecord (args .t)) (now (args .records)) (at .loop .k) (omega arith) good)
@@ -69,7 +79,6 @@ first-bad-spec =
     record-at-requires
     (λ c κs. search needs)
     returns
-    (λ c. search needs)
-    (λ c. search needs)
+    (λ c. search needs) (λ c. search needs)
     loop-again
     returns-2)

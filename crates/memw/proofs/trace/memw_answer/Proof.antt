@@ -19,7 +19,8 @@ first-bad-requires c κs =
 
 table-answer-requires : tie.Need-table-answer-requires
 table-answer-requires c κs =
-    let entry = c .before .before .before .before .before in
+    let at-record-width = c .before .before .before in
+    let entry = at-record-width .before .before in
     (entry .pre, rw (c .row-width .ensures) (row-width-bound (entry .args .t)))
 
 returns : tie.Need-returns
@@ -27,7 +28,12 @@ unfolding memwAnswer
 returns c =
     let at-count = c .before .before .before in
     c .table-answer .ensures
-    ∙ rw (c .before .row-width .ensures, c .before .before .first-bad .ensures, at-count .record-count .ensures, at-count .before .record-width .ensures)
+    ∙ rw (
+      c .before .row-width .ensures,
+      c .before .before .first-bad .ensures,
+      at-count .record-count .ensures,
+      at-count .before .record-width .ensures,
+    )
 
 pub memw-answer-spec : {M : Type 1} → statement M
 memw-answer-spec =

@@ -11,29 +11,23 @@ use Rattle.memw_residues.proofs.residues.register_equation.Tie as tie
 two : (i : ℕ) → i < 3 → (i ≡ 0 → ⊥) → (i ≡ 1 → ⊥) → i ≡ 2
 two i h a b = omega arith
 
-returns : tie.Need-returns
-unfolding registerResidue
-returns c = rw (c .before .match .keys1) (c .bit .ensures)
-
-returns-2 : tie.Need-returns-2
-unfolding registerResidue
-returns-2 c = rw (c .before .match .keys2) (c .bit2 .ensures)
-
 returns-3 : tie.Need-returns-3
 unfolding registerResidue
 returns-3 c =
-    let missed = c .before .before .before .match .rest in
-    rw (two _ (c .before .before .before .before .before .pre .2) (missed .0 .1) (missed .1)) (c .bit-of-sum .ensures)
+    let arm = c .before .before .before in
+    let missed = arm .match .rest in
+    rw (two _ (arm .before .before .pre .1) (missed .0 .1) (missed .1)) (c .bit-of-sum .ensures)
 
 pub register-equation-spec : {M : Type 1} → statement M
+unfolding registerResidue
 register-equation-spec =
     tie.close
     (tie.spec
-    (λ c κs. search needs)
-    (λ c κs. search needs)
-    (λ c. search needs)
-    (λ c. search needs)
-    (λ c κs. let each = c .before .before .before .before .pre .0 .each in (each _, each _))
-    returns
-    returns-2
+    (λ c κs. (omega arith, c .before .before .pre .0 .each _))
+    (λ c κs. (omega arith, c .before .before .pre .0 .each _))
+    (λ c. search needs) (λ c. search needs)
+    (λ c κs. let arm = c .before .before in
+    let each = arm .before .before .pre .0 .each in (each _, each _))
+    (λ c. rw (c .before .match .keys1) (c .bit .ensures))
+    (λ c. rw (c .before .match .keys2) (c .bit2 .ensures))
     returns-3)

@@ -19,31 +19,16 @@ Inv-loop conditions k₀ k = (k ≤ length conditions) × (every (λ i. ltb (get
 abbrev μ-loop : tie.MeasureT-loop
 μ-loop conditions k₀ k = length conditions - k
 
-loop-holds : tie.Need-loop-holds Inv-loop μ-loop
-loop-holds c = (omega arith, every-none _)
-
-returns : tie.Need-returns Inv-loop μ-loop
-unfolding conditionsInRow
-returns c = every-miss _ _ _ (c .before .before .loop-test .taken) (le-ltb _ _ (c .if1 .taken))
-
-loop-again : tie.Need-loop-again Inv-loop μ-loop
-loop-again c = (omega arith, every-next _ _ (c .before .before .before .loop .inv .1) (lt-ltb _ _ (c .if1 .left)))
-
-returns-2 : tie.Need-returns-2 Inv-loop μ-loop
-unfolding conditionsInRow
-returns-2 c = every-end _ _ _ (omega arith) (c .before .loop .inv .1)
-
 pub conditions-in-row-spec : {M : Type 1} → statement M
+unfolding conditionsInRow
 conditions-in-row-spec =
     tie.close
     (tie.spec
     Inv-loop
     μ-loop
-    loop-holds
-    (λ c. search needs)
-    (λ c. search needs)
-    returns
-    (λ c. search needs)
-    (λ c. search needs)
-    loop-again
-    returns-2)
+    (λ c. (omega arith, every-none _))
+    (λ c. search needs) (λ c. search needs)
+    (λ c. every-miss _ _ _ (c .before .before .loop-test .taken) (le-ltb _ _ (c .if1 .taken)))
+    (λ c. search needs) (λ c. search needs)
+    (λ c. (omega arith, every-next _ _ (c .before .before .before .loop .inv .1) (lt-ltb _ _ (c .if1 .left))))
+    (λ c. every-end _ _ _ (omega arith) (c .before .loop .inv .1)))

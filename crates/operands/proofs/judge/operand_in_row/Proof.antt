@@ -6,22 +6,16 @@ use Rattle.operands.proofs.Operands.{words-ok, sums-ok}
 use Rattle.operands.proofs.judge.operand_in_row.Statement.{statement}
 use Rattle.operands.proofs.judge.operand_in_row.Tie as tie
 
-returns : tie.Need-returns
-returns c = words-ok (c .before .kind .given .1) _ _
-
 returns-2 : tie.Need-returns-2
 returns-2 c =
-    (λ i. c .before .sum-in-row .ensures i && c .sum-in-row2 .ensures i)
-    ∙ sums-ok (c .before .before .before .before .before .kind2 .given .1) _ _
+    let at-sum = c .before in
+    let at-low-terms = at-sum .before .before in
+    (λ i. at-sum .sum-in-row .ensures i && c .sum-in-row2 .ensures i) ∙ sums-ok (at-low-terms .before .before .kind2 .given .1) _ _
 
 pub operand-in-row-spec : {M : Type 1} → statement M
 operand-in-row-spec =
     tie.close
     (tie.spec
-    (λ c. search needs)
-    (λ c. search needs)
-    (λ c. search needs)
-    (λ c κs. search needs)
-    (λ c κs. search needs)
-    returns
+    (λ c. search needs) (λ c. search needs) (λ c. search needs) (λ c κs. search needs) (λ c κs. search needs)
+    (λ c. words-ok (c .before .kind .given .1) _ _)
     returns-2)

@@ -5,10 +5,10 @@ use Rattle.operands.specs.Operands.{operandsInRow}
 use Rattle.operands.proofs.judge.operands_in_row.Statement.{statement}
 use Rattle.operands.proofs.judge.operands_in_row.Tie as tie
 
-returns : tie.Need-returns
-unfolding operandsInRow
-returns c = λ i. c .before .before .operand-in-row .ensures i && c .before .operand-in-row2 .ensures i && c .operand-in-row3 .ensures i
-
 pub operands-in-row-spec : {M : Type 1} → statement M
+unfolding operandsInRow
 operands-in-row-spec =
-    tie.close (tie.spec (λ c κs. search needs) (λ c κs. search needs) (λ c κs. search needs) returns)
+    tie.close
+    (tie.spec
+    (λ c κs. search needs) (λ c κs. search needs) (λ c κs. search needs)
+    (λ c. λ i. c .before .before .operand-in-row .ensures i && c .before .operand-in-row2 .ensures i && c .operand-in-row3 .ensures i))

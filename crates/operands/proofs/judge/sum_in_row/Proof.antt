@@ -17,26 +17,16 @@ Inv-loop n terms k₀ k = (k ≤ n) × (every (λ i. termInRow (termAt terms i))
 abbrev μ-loop : tie.MeasureT-loop
 μ-loop n terms k₀ k = n - k
 
-returns : tie.Need-returns Inv-loop μ-loop
-returns c = sum-many _ _ (c .if1 .taken)
-
-loop-holds : tie.Need-loop-holds Inv-loop μ-loop
-loop-holds c = (omega arith, every-none _)
-
 returns-2 : tie.Need-returns-2 Inv-loop μ-loop
 returns-2 c =
     sum-miss _ _ _ (c .before .before .before .loop-test .taken)
     (sym (c .before .term-in-row .ensures) ∙ not-true _ (c .if2 .taken))
 
 loop-again : tie.Need-loop-again Inv-loop μ-loop
-loop-again c = (
-  omega arith,
-  every-next _ _ (c .before .before .before .before .loop .inv .1)
-      (sym (c .before .term-in-row .ensures) ∙ not-false _ (c .if2 .left)),
-)
-
-returns-3 : tie.Need-returns-3 Inv-loop μ-loop
-returns-3 c = sum-all _ _ _ (c .before .before .if1 .left) (omega arith) (c .before .loop .inv .1)
+loop-again c =
+    let at-term = c .before in
+    let all = at-term .before .before .before .loop .inv .1 in
+    (omega arith, every-next _ _ all (sym (at-term .term-in-row .ensures) ∙ not-false _ (c .if2 .left)))
 
 pub sum-in-row-spec : {M : Type 1} → statement M
 sum-in-row-spec =
@@ -44,13 +34,10 @@ sum-in-row-spec =
     (tie.spec
     Inv-loop
     μ-loop
-    returns
-    loop-holds
-    (λ c. search needs)
-    (λ c. search needs)
-    (λ c κs. search needs)
+    (λ c. sum-many _ _ (c .if1 .taken))
+    (λ c. (omega arith, every-none _))
+    (λ c. search needs) (λ c. search needs) (λ c κs. search needs)
     returns-2
-    (λ c. search needs)
-    (λ c. search needs)
+    (λ c. search needs) (λ c. search needs)
     loop-again
-    returns-3)
+    (λ c. sum-all _ _ _ (c .before .before .if1 .left) (omega arith) (c .before .loop .inv .1)))

@@ -5,13 +5,10 @@ use Rattle.operands.specs.Operands.{termInRow}
 use Rattle.operands.proofs.judge.term_in_row.Statement.{statement}
 use Rattle.operands.proofs.judge.term_in_row.Tie as tie
 
-returns : tie.Need-returns
-unfolding termInRow
-returns c = search needs
-
-returns-2 : tie.Need-returns-2
-unfolding termInRow
-returns-2 c = sym (ap termInRow (c .before .t .given .1))
-
 pub term-in-row-spec : {M : Type 1} → statement M
-term-in-row-spec = tie.close (tie.spec (λ c. search needs) (λ c. search needs) returns returns-2)
+unfolding termInRow
+term-in-row-spec =
+    tie.close
+    (tie.spec
+    (λ c. search needs) (λ c. search needs) (λ c. search needs)
+    (λ c. sym (ap termInRow (c .before .t .given .1))))

@@ -22,32 +22,19 @@ Inv-loop conditions row total₀ k₀ total k =
 abbrev μ-loop : tie.MeasureT-loop
 μ-loop conditions row total₀ k₀ total k = length conditions - k
 
+-- Place: the entry
+abbrev to-start : tie.At-loop Inv-loop μ-loop → tie.Start Inv-loop μ-loop
+to-start c = c .before .before .before
+
 -- the column is in the row
-column : (c : tie.In-loop Inv-loop μ-loop)
-    → getD (now (c .before .before .before .before .args .conditions)) (c .before .loop .k) 0 < COLUMNS
+column : (c : tie.In-loop Inv-loop μ-loop) → getD (now (to-start (c .before) .args .conditions)) (c .before .loop .k) 0 < COLUMNS
 unfolding conditionsInRow
-column c = ltb-true _ COLUMNS (every-at _ _ (c .before .before .before .before .pre .0) (c .before .loop .k) (c .loop-test .taken))
-
-loop-holds : tie.Need-loop-holds Inv-loop μ-loop
-loop-holds c = (omega arith, (sum-none _, omega arith))
-
-mul-add : tie.Need-mul-add Inv-loop μ-loop
-mul-add c = omega (arith, column (c .before))
-
-shared-slice-read-add : tie.Need-shared-slice-read-add Inv-loop μ-loop
-shared-slice-read-add c =
-    omega (arith, column (c .before .before), c .before .before .before .before .before .before .pre .1 .wide)
-
-add-requires : tie.Need-add-requires Inv-loop μ-loop
-add-requires c κs =
-    (c .before .before .before .loop .inv .1 .1, c .before .before .before .before .before .before .pre .1 .each _)
+column c = ltb-true _ COLUMNS (every-at _ _ (to-start (c .before) .pre .0) (c .before .loop .k) (c .loop-test .taken))
 
 loop-again : tie.Need-loop-again Inv-loop μ-loop
 loop-again c =
-    (omega arith, (sum-next _ _ (c .add .ensures .0) (c .before .before .before .before .loop .inv .1 .0) refl, c .add .ensures .1))
-
-returns : tie.Need-returns Inv-loop μ-loop
-returns c = sum-end _ _ _ (omega arith) (c .before .loop .inv .1 .0)
+    let at-test = c .before .before .before in
+    (omega arith, (sum-next _ _ (c .add .ensures .0) (at-test .before .loop .inv .1 .0) refl, c .add .ensures .1))
 
 pub condition-sum-spec : {M : Type 1} → statement M
 condition-sum-spec =
@@ -55,13 +42,11 @@ condition-sum-spec =
     (tie.spec
     Inv-loop
     μ-loop
-    loop-holds
-    (λ c. search needs)
-    (λ c. search needs)
-    mul-add
-    shared-slice-read-add
-    add-requires
-    (λ c. search needs)
-    (λ c. search needs)
+    (λ c. (omega arith, (sum-none _, omega arith)))
+    (λ c. search needs) (λ c. search needs)
+    (λ c. omega (arith, column (c .before)))
+    (λ c. omega (arith, column (c .before .before)))
+    (λ c κs. let at-loop = c .before .before .before in (at-loop .loop .inv .1 .1, to-start at-loop .pre .1 .each _))
+    (λ c. search needs) (λ c. search needs)
     loop-again
-    returns)
+    (λ c. sum-end _ _ _ (omega arith) (c .before .loop .inv .1 .0)))

@@ -20,25 +20,28 @@ back c = toZ-ofZ {w = w64} {z = c .before .t2 .given .0 .0} (record { sfits = se
 
 column : (c : tie.After-known-told2) → c .before .t2 .given .0 .1 .0 < COLUMNS
 unfolding termInRow
-column c = ltb-true _ COLUMNS (sym (ap termInRow (c .before .t2 .given .1)) ∙ c .before .before .before .before .pre .0)
+column c =
+    let told = c .before in
+    ltb-true _ COLUMNS (sym (ap termInRow (told .t2 .given .1)) ∙ told .before .before .before .pre .0)
 
 returns : tie.Need-returns
 unfolding termValue
 returns c =
-    let e : c .from-signed .result ≡ signedP (c .before .before .t .given .0 .0) =
-    c .from-signed .ensures .0
-    ∙ ap signedP (toZ-ofZ {w = w64} {z = c .before .before .t .given .0 .0} (record { sfits = search needs }))
+    let told = c .before .before .t .given in
+    let e : c .from-signed .result ≡ signedP (told .0 .0) =
+    c .from-signed .ensures .0 ∙ ap signedP (toZ-ofZ {w = w64} {z = told .0 .0} (record { sfits = search needs }))
     in
-    (e ∙ sym (ap (termValue _) (c .before .before .t .given .1)), c .from-signed .ensures .1)
+    (e ∙ sym (ap (termValue _) (told .1)), c .from-signed .ensures .1)
 
 returns-2 : tie.Need-returns-2
 unfolding termValue
 returns-2 c =
-    let row = now (c .before .before .before .before .before .before .before .args .row) in
-    let y = at row (c .before .before .before .before .t2 .given .0 .1 .0) in (
+    let at-signed = c .before .before in
+    let told = at-signed .before .before in
+    let y = at (now (told .before .before .before .args .row)) (told .t2 .given .0 .1 .0) in (
       c .mul .ensures .0
-          ∙ ap (λ (x : ℕ). mulP x y) (c .before .before .from-signed2 .ensures .0 ∙ ap signedP (back (c .before .before .before)))
-          ∙ sym (ap (termValue _) (c .before .before .before .before .t2 .given .1)),
+          ∙ ap (λ (x : ℕ). mulP x y) (at-signed .from-signed2 .ensures .0 ∙ ap signedP (back (at-signed .before)))
+          ∙ sym (ap (termValue _) (told .t2 .given .1)),
       c .mul .ensures .1,
     )
 
@@ -46,12 +49,9 @@ pub term-value-spec : {M : Type 1} → statement M
 term-value-spec =
     tie.close
     (tie.spec
-    (λ c. search needs)
-    (λ c κs. search needs)
-    (λ c. search needs)
-    (λ c κs. search needs)
+    (λ c. search needs) (λ c κs. search needs) (λ c. search needs) (λ c κs. search needs)
     (λ c. omega (arith, column (c .before)))
-    (λ c. omega (arith, column (c .before .before), c .before .before .before .before .before .before .pre .1))
+    (λ c. omega (arith, column (c .before .before)))
     (λ c κs. search needs)
     returns
     returns-2)

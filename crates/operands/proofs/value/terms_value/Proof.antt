@@ -16,26 +16,17 @@ Inv-loop n row terms total₀ k₀ total k = (k ≤ n) × ((total ≡ termsValue
 abbrev μ-loop : tie.MeasureT-loop
 μ-loop n row terms total₀ k₀ total k = n - k
 
-loop-holds : tie.Need-loop-holds Inv-loop μ-loop
-loop-holds c = (omega arith, (sum-none _, omega arith))
-
 term-value-requires : tie.Need-term-value-requires Inv-loop μ-loop
 term-value-requires c κs =
-    let entry = c .before .before .before .before in
-    (sum-term _ _ (entry .pre .0) _ (c .before .loop-test .taken), entry .pre .1)
+    let at-loop-test = c .before in
+    let start = at-loop-test .before .before .before in
+    (sum-term _ _ (start .pre .0) _ (at-loop-test .loop-test .taken), start .pre .1)
 
 loop-again : tie.Need-loop-again Inv-loop μ-loop
-loop-again c = (
-  omega arith,
-  (
-    sum-next _ _ (c .add .ensures .0) (c .before .before .before .before .loop .inv .1 .0)
-        (c .before .term-value .ensures .0),
-    c .add .ensures .1,
-  ),
-)
-
-returns : tie.Need-returns Inv-loop μ-loop
-returns c = sum-end _ _ _ (omega arith) (c .before .loop .inv .1 .0)
+loop-again c =
+    let at-value = c .before in
+    let sum = sum-next _ _ (c .add .ensures .0) (at-value .before .before .before .loop .inv .1 .0) (at-value .term-value .ensures .0) in
+    (omega arith, (sum, c .add .ensures .1))
 
 pub terms-value-spec : {M : Type 1} → statement M
 terms-value-spec =
@@ -43,12 +34,10 @@ terms-value-spec =
     (tie.spec
     Inv-loop
     μ-loop
-    loop-holds
+    (λ c. (omega arith, (sum-none _, omega arith)))
     (λ c. omega (arith, sum-few _ _ (c .before .before .before .pre .0)))
     (λ c. omega (arith, sum-few _ _ (c .before .before .before .pre .0)))
     term-value-requires
-    (λ c κs. search needs)
-    (λ c. search needs)
-    (λ c. search needs)
+    (λ c κs. search needs) (λ c. search needs) (λ c. search needs)
     loop-again
-    returns)
+    (λ c. sum-end _ _ _ (omega arith) (c .before .loop .inv .1 .0)))

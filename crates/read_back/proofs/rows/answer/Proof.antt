@@ -25,8 +25,7 @@ pub answer-spec : {M : Type 1} → statement M
 answer-spec =
     tie.close
     (tie.spec
-    (λ c κs. search needs)
-    (λ c. search needs)
+    (λ c κs. search needs) (λ c. search needs)
     (λ c κs. let check = c .before .before in let a = entry-of check .args in
     passed-fit (a .gap) (now (a .rows)) (ap (λ (x : ChainAnswer). chainNumbers x .number) (sym (check .check .ensures) ∙ c .enum-told .given .1)))
     (λ c. search needs)

@@ -7,8 +7,7 @@ pub is-read-spec : {M : Type 1} → statement M
 is-read-spec =
     tie.close
     (tie.spec
-    (λ c. search needs)
-    (λ c. search needs)
+    (λ c. search needs) (λ c. search needs)
     (λ c. rw (c .before .before .if1 .taken))
     (λ c. search needs)
     (λ c. rw (c .before .if1 .left)))

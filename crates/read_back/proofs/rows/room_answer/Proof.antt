@@ -16,10 +16,7 @@ pub room-answer-spec : {M : Type 1} → statement M
 room-answer-spec =
     tie.close
     (tie.spec
-    (λ c κs. search needs)
-    (λ c κs. search needs)
-    (λ c. search needs)
-    (λ c. search needs)
+    (λ c κs. search needs) (λ c κs. search needs) (λ c. search needs) (λ c. search needs)
     (λ c. let a = entry-of (c .before) .args in
     ap (λ (b : Bool). cond b (Read (c .before .before .count .result) (c .before .count2 .result)) BufferShort) (sym (c .if1 .taken))
     ∙ counted-answer (now (a .rows)) (a .ops) (a .calls) _ _ (c .before .before .count .ensures .0) (c .before .count2 .ensures .0))

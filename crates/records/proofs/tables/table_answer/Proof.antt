@@ -29,16 +29,22 @@ mul-if3 c =
 
 returns-3 : tie.Need-returns-3
 returns-3 c =
-    let room : c .before .before .before .before .args .room < c .before .before .before .before .args .v * rowCount (c .before .before .before .before .args .n) =
+    let at-if2 = c .before .before in
+    let at-if1 = at-if2 .before in
+    let start = at-if1 .before in
+    let room : start .args .room < start .args .v * rowCount (start .args .n) =
     rw (c .before .row-count .ensures) at (c .if3 .taken) in
-    sym (answer-short _ _ _ _ _ (c .before .before .before .if1 .left) (c .before .before .if2 .left) room)
+    sym (answer-short _ _ _ _ _ (at-if1 .if1 .left) (at-if2 .if2 .left) room)
 
 returns-4 : tie.Need-returns-4
 returns-4 c =
-    let room : c .before .before .before .before .args .v * rowCount (c .before .before .before .before .args .n) ≤ c .before .before .before .before .args .room =
+    let at-if2 = c .before .before in
+    let at-if1 = at-if2 .before in
+    let start = at-if1 .before in
+    let room : start .args .v * rowCount (start .args .n) ≤ start .args .room =
     rw (c .before .row-count .ensures) at (c .if3 .left) in
     ap Made (c .before .row-count .ensures)
-    ∙ sym (answer-made _ _ _ _ _ (c .before .before .before .if1 .left) (c .before .before .if2 .left) room)
+    ∙ sym (answer-made _ _ _ _ _ (at-if1 .if1 .left) (at-if2 .if2 .left) room)
 
 pub table-answer-spec : {M : Type 1} → statement M
 table-answer-spec =

@@ -23,8 +23,10 @@ returns c = sym (within-cut _ _ (c .if1 .taken))
 
 loop-again : tie.Need-loop-again Inv-loop μ-loop
 loop-again c =
-    let at = c .before .before .before .loop in
-    let args = c .before .before .before .before .before .args in
+    let at-loop = c .before .before .before in
+    let start = at-loop .before .before in
+    let at = at-loop .loop in
+    let args = start .args in
     let limits = now (args .limits) in
     let r = now (args .r) in
     let i = at .i in
@@ -47,11 +49,7 @@ within-limits-spec =
     μ-loop
     returns
     (λ c. (omega arith, c .if1 .left, sym (any-none _ _)))
-    (λ c. search needs)
-    (λ c. search needs)
-    (λ c. search needs)
-    (λ c. search needs)
-    (λ c. search needs)
+    (λ c. search needs) (λ c. search needs) (λ c. search needs) (λ c. search needs) (λ c. search needs)
     (λ c. search needs)
     loop-again
     returns-2)

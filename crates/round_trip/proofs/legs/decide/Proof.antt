@@ -34,17 +34,23 @@ returns-2 c =
 returns-3 : tie.Need-returns-3
 unfolding decided
 returns-3 c =
-    let a = c .before .before .before .before .args in
-    let made : COLUMNS * rowCount (a .n) ≤ a .table-room = rw (c .before .before .row-count .ensures) at (c .before .if2 .left) in
-    rw (le-ltb LIMIT _ (c .before .before .before .if1 .left), le-ltb _ _ made, c .if3 .taken)
+    let at-row-count = c .before .before in
+    let at-if1 = at-row-count .before in
+    let start = at-if1 .before in
+    let a = start .args in
+    let made : COLUMNS * rowCount (a .n) ≤ a .table-room = rw (at-row-count .row-count .ensures) at (c .before .if2 .left) in
+    rw (le-ltb LIMIT _ (at-if1 .if1 .left), le-ltb _ _ made, c .if3 .taken)
 
 returns-4 : tie.Need-returns-4
 unfolding decided
 returns-4 c =
-    let a = c .before .before .before .before .args in
-    let made : COLUMNS * rowCount (a .n) ≤ a .table-room = rw (c .before .before .row-count .ensures) at (c .before .if2 .left) in
-    rw (le-ltb LIMIT _ (c .before .before .before .if1 .left), le-ltb _ _ made, c .if3 .left)
-    (ap (λ rows. Passed rows (a .n) (a .m)) (c .before .before .row-count .ensures))
+    let at-row-count = c .before .before in
+    let at-if1 = at-row-count .before in
+    let start = at-if1 .before in
+    let a = start .args in
+    let made : COLUMNS * rowCount (a .n) ≤ a .table-room = rw (at-row-count .row-count .ensures) at (c .before .if2 .left) in
+    rw (le-ltb LIMIT _ (at-if1 .if1 .left), le-ltb _ _ made, c .if3 .left)
+    (ap (λ rows. Passed rows (a .n) (a .m)) (at-row-count .row-count .ensures))
 
 pub decide-spec : {M : Type 1} → statement M
 decide-spec =

@@ -23,7 +23,9 @@ expanded-of c =
     known8-at .before .before
 
 abbrev part-of : tie.After-generate-copy-trace → tie.After-slice-known11
-part-of c = let ops2-at = c .before .before .before in ops2-at .before
+part-of c =
+    let ops2-at = c .before .before .before in
+    ops2-at .before
 
 abbrev made-of : tie.After-read-back → tie.After-generate-copy-trace
 made-of c =
@@ -59,7 +61,7 @@ part-read-back-end c =
     let told = expanded-of (part-of made) in
     let start = start-of told in
     let kept = table-kept (trip-of start) (start .args .n) (start .args .rows) (start .pre) in
-    omega (arith, kept _ (told .expand-all .ensures) _ (made .generate-copy-trace .ensures .1))
+    omega (arith, kept _ (told .expand-all .ensures) _ (made .generate-copy-trace .ensures .written))
 
 returns : tie.Need-returns
 returns c =
@@ -69,7 +71,7 @@ returns c =
     let told = expanded-of (part-of made) in
     let start = start-of told in
     ran (trip-of start) (start .args .n) (start .args .rows) (start .pre) _ (told .expand-all .ensures) _
-    (made .generate-copy-trace .ensures .1) _ _ (back .read-back .ensures .ops-left) (back .read-back .ensures .calls-left)
+    (made .generate-copy-trace .ensures .written) _ _ (back .read-back .ensures .ops-left) (back .read-back .ensures .calls-left)
 
 pub run-spec : {M : Type 1} → statement M
 run-spec =
@@ -77,20 +79,12 @@ run-spec =
     (tie.spec
     (λ c κs. search needs)
     mul-generate-copy-trace
-    (λ c. search needs)
-    (λ c. search needs)
+    (λ c. search needs) (λ c. search needs)
     part-generate-copy-trace-end
     (λ c κs. search needs)
     mul-read-back
-    (λ c. search needs)
-    (λ c. search needs)
+    (λ c. search needs) (λ c. search needs)
     part-read-back-end
-    (λ c κs. search needs)
-    (λ c. search needs)
-    (λ c. search needs)
-    (λ c. search needs)
-    (λ c. search needs)
-    (λ c. search needs)
-    (λ c. search needs)
-    (λ c. search needs)
+    (λ c κs. search needs) (λ c. search needs) (λ c. search needs) (λ c. search needs) (λ c. search needs)
+    (λ c. search needs) (λ c. search needs) (λ c. search needs)
     returns)

@@ -8,76 +8,85 @@ use borrow.Author.Needs.{needs}
 use Rattle.lists.specs.Lists.{first}
 use Rattle.records.specs.Records.{recordCount, recordAt}
 use Rattle.records.proofs.Records.{badAt, record-within, bad-start, bad-pass}
-use Rattle.classify.specs.declared.MemwRoute.the-variants.{Register, Aligned, General}
-use Rattle.routing.specs.Routing.{countOf, routable, firstRefused}
-use Rattle.routing.specs.Steps.{verdictOf}
-use Rattle.routing.specs.declared.RouteAnswer.the-variants.{Routed, BadRecord, BadAddress}
+use Rattle.access.specs.Access.{ACCESS-WIDTH}
+use Rattle.routing.specs.Routing.{routable, firstRefused}
+use Rattle.routing.specs.Steps.{routeVerdict}
+use Rattle.routing.specs.declared.RouteAnswer.the-variants.{BadRecord, BadAddress}
+use Rattle.routing.specs.declared.split.Verdict.{Verdict}
 use Rattle.routing.specs.declared.split.Verdict.the-variants.{Goes, Malformed, Misplaced}
-use Rattle.routing.proofs.Routes.{count-none, count-le, count-next}
-use Rattle.routing.proofs.Judging.{verdict-said, judged-stop, judged-end}
+use Rattle.routing.proofs.Routes.{Counted, counted-start, counted-next, counted-few}
+use Rattle.routing.proofs.Judging.{Said, verdict-said, judged-stop, judged-end}
 use Rattle.routing.proofs.split.judge.Statement.{statement}
 use Rattle.routing.proofs.split.judge.Tie as tie
 
 abbrev Inv-loop : tie.InvT-loop
 Inv-loop accesses n counts₀ k₀ counts k =
     (k ≤ n)
-    × (n ≡ recordCount 29 accesses)
+    × (n ≡ recordCount ACCESS-WIDTH accesses)
     × (n ≤ 2 ^ 20)
-    × (counts .register ≡ countOf Register accesses k)
-    × (counts .aligned ≡ countOf Aligned accesses k)
-    × (counts .general ≡ countOf General accesses k)
-    × (firstRefused accesses ≡ first (badAt 29 routable accesses) k (recordCount 29 accesses - k))
+    × Counted accesses counts k
+    × (firstRefused accesses ≡ first (badAt ACCESS-WIDTH routable accesses) k (recordCount ACCESS-WIDTH accesses - k))
 
 abbrev μ-loop : tie.MeasureT-loop
 μ-loop accesses n counts₀ k₀ counts k = n - k
 
+-- places: the loop, seen from the verdict on record k; the entry, seen from the loop
+abbrev loop-of : tie.After-verdict-of Inv-loop μ-loop → tie.At-loop Inv-loop μ-loop
+loop-of c = c .before .before .before
+
+abbrev start-of : tie.At-loop Inv-loop μ-loop → tie.Start Inv-loop μ-loop
+start-of c = c .before .before
+
+-- what the verdict says of the record
+said-at : (c : tie.After-verdict-of Inv-loop μ-loop) (v : Verdict) → c .verdict-of .result ≡ v
+    → Said (recordAt ACCESS-WIDTH (now (start-of (loop-of c) .args .accesses)) (loop-of c .loop .k)) v
+said-at c v told =
+    verdict-said _ v (sym (c .verdict-of .ensures ∙ ap routeVerdict (c .before .record-at .ensures)) ∙ told)
+
 loop-holds : tie.Need-loop-holds Inv-loop μ-loop
 loop-holds c =
     let l = now (c .before .args .accesses) in
-    (omega arith, c .before .pre .0, c .before .pre .1, sym (count-none Register l), sym (count-none Aligned l), sym (count-none General l), bad-start 29 routable l)
+    (omega arith, c .before .pre .0, c .before .pre .1, counted-start l, bad-start ACCESS-WIDTH routable l)
 
 one-more-requires : tie.Need-one-more-requires Inv-loop μ-loop
 one-more-requires c κs =
-    let l = now (c .before .before .before .before .before .before .before .before .args .accesses) in
-    let k = c .before .before .before .before .before .before .loop .k in
-    (omega (arith, count-le Register l k), (omega (arith, count-le Aligned l k), omega (arith, count-le General l k)))
+    let found = c .before .before .before in
+    let at = loop-of found in
+    counted-few (now (start-of at .args .accesses)) (at .loop .counts) (at .loop .k) (at .loop .inv .3) (omega arith)
 
 returns : tie.Need-returns Inv-loop μ-loop
 returns c =
-    let l = now (c .before .before .before .before .before .before .before .args .accesses) in
-    let k = c .before .before .before .before .before .loop .k in
-    let s = verdict-said (recordAt 29 l k) Malformed (sym (c .before .before .verdict-of .ensures ∙ ap verdictOf (c .before .before .before .record-at .ensures)) ∙ c .enum-told .given .1) in
-    judged-stop l k (BadRecord k) (omega arith) (c .before .before .before .before .before .loop .inv .6) (s .0) (s .1 k)
+    let found = c .before .before in
+    let at = loop-of found in
+    let s = said-at found Malformed (c .enum-told .given .1) in
+    judged-stop (now (start-of at .args .accesses)) (at .loop .k) (BadRecord (at .loop .k)) (omega arith) (at .loop .inv .4) (s .0) (s .1 (at .loop .k))
 
 returns-2 : tie.Need-returns-2 Inv-loop μ-loop
 returns-2 c =
-    let l = now (c .before .before .before .before .before .before .before .args .accesses) in
-    let k = c .before .before .before .before .before .loop .k in
-    let s = verdict-said (recordAt 29 l k) Misplaced (sym (c .before .before .verdict-of .ensures ∙ ap verdictOf (c .before .before .before .record-at .ensures)) ∙ c .enum-told2 .given .1) in
-    judged-stop l k (BadAddress k) (omega arith) (c .before .before .before .before .before .loop .inv .6) (s .0) (s .1 k)
+    let found = c .before .before in
+    let at = loop-of found in
+    let s = said-at found Misplaced (c .enum-told2 .given .1) in
+    judged-stop (now (start-of at .args .accesses)) (at .loop .k) (BadAddress (at .loop .k)) (omega arith) (at .loop .inv .4) (s .0) (s .1 (at .loop .k))
 
 loop-again : tie.Need-loop-again Inv-loop μ-loop
 loop-again c =
-    let l = now (c .before .before .before .before .before .before .before .before .before .args .accesses) in
-    let at = c .before .before .before .before .before .before .before .loop in
-    let t = c .before .before .verdict .given .0 .0 in
-    let s = verdict-said (recordAt 29 l (at .k)) (Goes t) (sym (c .before .before .before .before .verdict-of .ensures ∙ ap verdictOf (c .before .before .before .before .before .record-at .ensures)) ∙ c .before .before .verdict .given .1) in (
+    let told = c .before .before in
+    let found = told .before .before in
+    let at = loop-of found in
+    let l = now (start-of at .args .accesses) in
+    let t = told .verdict .given .0 .0 in
+    let s = said-at found (Goes t) (told .verdict .given .1) in (
       omega arith,
-      at .inv .1,
-      at .inv .2,
-      count-next Register t l (at .k) (at .counts) (c .one-more .result) (at .inv .3) (c .one-more .ensures) (s .1),
-      count-next Aligned t l (at .k) (at .counts) (c .one-more .result) (at .inv .4) (c .one-more .ensures) (s .1),
-      count-next General t l (at .k) (at .counts) (c .one-more .result) (at .inv .5) (c .one-more .ensures) (s .1),
-      at .inv .6 ∙ bad-pass 29 routable l (at .k) (omega arith) (s .0),
+      at .loop .inv .1,
+      at .loop .inv .2,
+      counted-next l (at .loop .k) t (s .1) (at .loop .counts) (c .one-more .result) (c .one-more .ensures) (at .loop .inv .3),
+      at .loop .inv .4 ∙ bad-pass ACCESS-WIDTH routable l (at .loop .k) (omega arith) (s .0),
     )
 
 returns-3 : tie.Need-returns-3 Inv-loop μ-loop
 returns-3 c =
-    let l = now (c .before .before .before .args .accesses) in
-    let at = c .before .loop in
-    let e : at .k ≡ recordCount 29 l = omega arith in
-    (λ i. Routed ((at .inv .3 ∙ ap (countOf Register l) e) i) ((at .inv .4 ∙ ap (countOf Aligned l) e) i) ((at .inv .5 ∙ ap (countOf General l) e) i))
-    ∙ judged-end l (at .k) (omega arith) (at .inv .6)
+    let at = c .before in
+    judged-end (now (start-of at .args .accesses)) (at .loop .k) (at .loop .counts) (omega arith) (at .loop .inv .3) (at .loop .inv .4)
 
 pub judge-spec : {M : Type 1} → statement M
 judge-spec =
@@ -86,15 +95,13 @@ judge-spec =
     Inv-loop
     μ-loop
     loop-holds
-    (λ c κs. omega (arith, record-within 29 (now (c .before .before .before .args .accesses)) (c .before .loop .k) (omega arith) (omega arith)))
-    (λ c κs. search needs)
-    (λ c. search needs)
+    (λ c κs. omega (arith, record-within ACCESS-WIDTH (now (start-of (c .before) .args .accesses)) (c .before .loop .k) (omega arith) (omega arith)))
+    (λ c κs. search needs) (λ c. search needs)
     one-more-requires
     (λ c. search needs)
     returns
     (λ c. search needs)
     returns-2
-    (λ c. search needs)
-    (λ c. search needs)
+    (λ c. search needs) (λ c. search needs)
     loop-again
     returns-3)

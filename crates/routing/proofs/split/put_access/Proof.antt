@@ -1,104 +1,127 @@
--- `routing::split::put_access` meets its contract: the record is written into the list of its route, behind what is there, and the other
+-- `routing::split::put_access` meets its contract: the record is written into the list of its table, behind what is there, and the other
 -- two stay. Assumes nothing.
 use mathlib.Core.Path.{_≡_, refl, sym, ap, _∙_}
-use Prim.Native.Nat.{_*_}
+use mathlib.Core.List.{List}
+use Prim.Native.Nat.{ℕ, _*_}
 use native.Mathlib.Omega.{arith}
 use denote.Ref.{now}
-use lib.ListN.{length-take, length-drop}
+use lib.ListN.{length}
 use borrow.Author.Needs.{needs}
+use Rattle.lists.specs.Lists.{store}
+use Rattle.access.specs.Access.{ACCESS-WIDTH}
+use Rattle.access.specs.Tables.{REGISTER-WIDTH, sameTable}
+use Rattle.access.specs.declared.AccessTable.{AccessTable}
+use Rattle.access.specs.declared.AccessTable.the-variants.{General, Aligned, Register}
 use Rattle.access.proofs.Good.{good-length}
-use Rattle.classify.specs.Classify.{classify}
-use Rattle.classify.specs.RouteRecord.{registerRecord}
-use Rattle.classify.specs.declared.MemwRoute.the-variants.{Register, Aligned, General}
-use Rattle.routing.specs.Routing.{sameRoute}
-use Rattle.routing.specs.Steps.{oneMore}
-use Rattle.routing.proofs.Routes.{part-written, placed-here, placed-not}
+use Rattle.classify.specs.Classify.{tableOf, tableFor}
+use Rattle.routing.specs.Steps.{withOne}
+use Rattle.routing.proofs.Routes.{placed-here, placed-not, put-of}
 use Rattle.routing.proofs.split.put_access.Statement.{statement}
 use Rattle.routing.proofs.split.put_access.Tie as tie
 
+-- the entry, seen from where the table is known
+abbrev start-of : tie.After-table-of → tie.Start
+start-of c =
+    let slices = c .before .before .before in
+    slices .before .before .before
+
+module _ (c : tie.After-table-of) where
+  abbrev op : List ℕ
+  op = now (start-of c .args .op)
+
+  table-at : c .table-of .result ≡ tableFor op
+  table-at = c .table-of .ensures ∙ ap tableOf (c .before .classify .ensures)
+
+  -- as the match tells it
+  goes-to : (t : AccessTable) → c .table-of .result ≡ t → tableFor op ≡ t
+  goes-to t told = sym table-at ∙ told
+
+  whole : length op ≡ ACCESS-WIDTH
+  whole = good-length op (start-of c .pre .0)
+
+put-at-requires : tie.Need-put-at-requires
+put-at-requires c κs =
+    let told = c .before .before in
+    let found = told .before .before in
+    let room = start-of found .pre .2 General (ap (sameTable General) (goes-to found General (told .enum-told .given .1))) in
+    omega (arith, whole found, room)
+
+put-at-requires-2 : tie.Need-put-at-requires-2
+put-at-requires-2 c κs =
+    let told = c .before .before in
+    let found = told .before .before in
+    let room = start-of found .pre .2 Aligned (ap (sameTable Aligned) (goes-to found Aligned (told .enum-told2 .given .1))) in
+    omega (arith, whole found, room)
+
+put-at-requires-3 : tie.Need-put-at-requires-3
+put-at-requires-3 c κs =
+    let at-register-record = c .before .before .before in
+    let told = at-register-record .before in
+    let found = told .before .before in
+    let room = start-of found .pre .2 Register (ap (sameTable Register) (goes-to found Register (told .enum-told3 .given .1))) in
+    omega (arith, room)
+
 returns : tie.Need-returns
 returns c =
-    let start = c .before .before .before .before .before .before .before .before .before .before .before .before .before .before .before in
-    let a = start .args in
-    let r = now (a .op) in
-    let goes : classify r ≡ Register = sym (c .before .before .before .before .before .before .before .before .before .before .classify .ensures) ∙ c .before .before .before .before .before .before .before .before .enum-told .given .1 in (
-      c .one-more .ensures ∙ ap (λ t. oneMore t (a .ends)) (c .before .before .before .before .before .before .before .before .before .before .classify .ensures),
-      (
-        part-written (now (a .register)) _ (registerRecord r) (8 * a .ends .register) 8 (c .before .before .before .put .ensures ∙ c .before .before .before .before .before .before .register-record .ensures) refl (start .pre .1 .0 .0 (ap (sameRoute Register) goes))
-            ∙ placed-here Register r (a .ends) (now (a .register)) goes,
-        (placed-not Aligned r (a .ends) (now (a .aligned)) Register goes refl, placed-not General r (a .ends) (now (a .general)) Register goes refl),
-      ),
-    )
+    let put = c .before .before .before in
+    let told = put .before .before .before in
+    let found = told .before .before in
+    let a = start-of found .args in
+    let e = goes-to found General (told .enum-told .given .1) in
+    put-of
+    (c .one-more .ensures ∙ ap (λ t. withOne t (a .ends)) (table-at found))
+    (placed-not Register General (op found) (a .ends) (now (a .register)) e refl)
+    (placed-not Aligned General (op found) (a .ends) (now (a .aligned)) e refl)
+    (placed-here General General (op found) (a .ends) (now (a .general)) e refl _ (put .put-at .ensures))
 
 returns-2 : tie.Need-returns-2
 returns-2 c =
-    let start = c .before .before .before .before .before .before .before .before .before .before .before .before .before in
-    let a = start .args in
-    let r = now (a .op) in
-    let goes : classify r ≡ Aligned = sym (c .before .before .before .before .before .before .before .before .classify .ensures) ∙ c .before .before .before .before .before .before .enum-told2 .given .1 in (
-      c .one-more2 .ensures ∙ ap (λ t. oneMore t (a .ends)) (c .before .before .before .before .before .before .before .before .classify .ensures),
-      (
-        placed-not Register r (a .ends) (now (a .register)) Aligned goes refl,
-        (
-          part-written (now (a .aligned)) _ r (29 * a .ends .aligned) 29 (c .before .before .before .put2 .ensures) (good-length r (start .pre .0)) (start .pre .1 .0 .1 .0 (ap (sameRoute Aligned) goes))
-              ∙ placed-here Aligned r (a .ends) (now (a .aligned)) goes,
-          placed-not General r (a .ends) (now (a .general)) Aligned goes refl,
-        ),
-      ),
-    )
+    let put = c .before .before .before in
+    let told = put .before .before .before in
+    let found = told .before .before in
+    let a = start-of found .args in
+    let e = goes-to found Aligned (told .enum-told2 .given .1) in
+    put-of
+    (c .one-more2 .ensures ∙ ap (λ t. withOne t (a .ends)) (table-at found))
+    (placed-not Register Aligned (op found) (a .ends) (now (a .register)) e refl)
+    (placed-here Aligned Aligned (op found) (a .ends) (now (a .aligned)) e refl _ (put .put-at2 .ensures))
+    (placed-not General Aligned (op found) (a .ends) (now (a .general)) e refl)
 
 returns-3 : tie.Need-returns-3
 returns-3 c =
-    let start = c .before .before .before .before .before .before .before .before .before .before .before .before .before in
-    let a = start .args in
-    let r = now (a .op) in
-    let goes : classify r ≡ General = sym (c .before .before .before .before .before .before .before .before .classify .ensures) ∙ c .before .before .before .before .before .before .enum-told3 .given .1 in (
-      c .one-more3 .ensures ∙ ap (λ t. oneMore t (a .ends)) (c .before .before .before .before .before .before .before .before .classify .ensures),
-      (
-        placed-not Register r (a .ends) (now (a .register)) General goes refl,
-        (
-          placed-not Aligned r (a .ends) (now (a .aligned)) General goes refl,
-          part-written (now (a .general)) _ r (29 * a .ends .general) 29 (c .before .before .before .put3 .ensures) (good-length r (start .pre .0)) (start .pre .1 .0 .1 .1 (ap (sameRoute General) goes))
-              ∙ placed-here General r (a .ends) (now (a .general)) goes,
-        ),
-      ),
-    )
+    let put = c .before .before .before in
+    let at-put-at-arg3 = put .before .before .before in
+    let made = at-put-at-arg3 .before in
+    let told = made .before in
+    let found = told .before .before in
+    let a = start-of found .args in
+    let e = goes-to found Register (told .enum-told3 .given .1) in
+    put-of
+    (c .one-more3 .ensures ∙ ap (λ t. withOne t (a .ends)) (table-at found))
+    (placed-here Register Register (op found) (a .ends) (now (a .register)) e refl _
+    (put .put-at3 .ensures ∙ ap (λ (r : List ℕ). store (now (a .register)) (REGISTER-WIDTH * a .ends .register) r) (made .register-record .ensures)))
+    (placed-not Aligned Register (op found) (a .ends) (now (a .aligned)) e refl)
+    (placed-not General Register (op found) (a .ends) (now (a .general)) e refl)
 
 pub put-access-spec : {M : Type 1} → statement M
 put-access-spec =
     tie.close
     (tie.spec
-    (λ c κs. search needs)
+    (λ c κs. search needs) (λ c κs. search needs) (λ c. search needs)
+    (λ c. let told = c .before .before in
+    omega (arith, start-of (told .before .before) .pre .1 General))
+    put-at-requires
+    (λ c κs. search needs) (λ c. search needs)
+    (λ c. let told = c .before .before in
+    omega (arith, start-of (told .before .before) .pre .1 Aligned))
+    put-at-requires-2
+    (λ c κs. search needs) (λ c. search needs)
+    (λ c κs. whole (c .before .before))
+    (λ c. let told = c .before .before .before in
+    omega (arith, start-of (told .before .before) .pre .1 Register))
     (λ c. search needs)
-    (λ c. search needs)
-    (λ c κs. good-length _ (c .before .before .before .before .before .before .before .before .pre .0))
-    (λ c. search needs)
-    (λ c. search needs)
-    (λ c. search needs)
-    (λ c. search needs)
-    (λ c. omega (arith, c .before .before .before .before .before .before .before .before .before .pre .1 .0 .0 (ap (sameRoute Register) (sym (c .before .before .before .before .classify .ensures) ∙ c .before .before .enum-told .given .1))))
-    (λ c. search needs)
-    (λ c κs. search needs)
-    (λ c κs. search needs)
-    (λ c. search needs)
-    (λ c. search needs)
-    (λ c. search needs)
-    (λ c. search needs)
-    (λ c. search needs)
-    (λ c. search needs)
-    (λ c. omega (arith, c .before .before .before .before .before .before .before .before .pre .1 .0 .1 .0 (ap (sameRoute Aligned) (sym (c .before .before .before .classify .ensures) ∙ c .before .enum-told2 .given .1))))
-    (λ c κs. simp (length-take, length-drop) (omega (arith, good-length (now (c .before .before .before .before .before .before .before .before .before .args .op)) (c .before .before .before .before .before .before .before .before .before .pre .0), c .before .before .before .before .before .before .before .before .before .pre .1 .0 .1 .0 (ap (sameRoute Aligned) (sym (c .before .before .before .before .classify .ensures) ∙ c .before .before .enum-told2 .given .1)))))
-    (λ c κs. search needs)
-    (λ c. search needs)
-    (λ c. search needs)
-    (λ c. search needs)
-    (λ c. search needs)
-    (λ c. search needs)
-    (λ c. search needs)
-    (λ c. omega (arith, c .before .before .before .before .before .before .before .before .pre .1 .0 .1 .1 (ap (sameRoute General) (sym (c .before .before .before .classify .ensures) ∙ c .before .enum-told3 .given .1))))
-    (λ c κs. simp (length-take, length-drop) (omega (arith, good-length (now (c .before .before .before .before .before .before .before .before .before .args .op)) (c .before .before .before .before .before .before .before .before .before .pre .0), c .before .before .before .before .before .before .before .before .before .pre .1 .0 .1 .1 (ap (sameRoute General) (sym (c .before .before .before .before .classify .ensures) ∙ c .before .before .enum-told3 .given .1)))))
-    (λ c κs. search needs)
-    (λ c. search needs)
+    put-at-requires-3
+    (λ c κs. search needs) (λ c. search needs)
     returns
     (λ c. search needs)
     returns-2

@@ -9,11 +9,14 @@ use Rattle.window.proofs.cells.write_bytes.Tie as tie
 
 returns : tie.Need-returns
 returns c =
-    let a = (c .before .before .before .before .before .before .args) in
-    (c .before .before .put-bytes) .ensures ∙ ap (λ (n : ℕ). writeBytes (now (a .bytes)) (a .at) n (a .value)) (sym ((c .before .before .before .before .if1) .taken))
+    let at-put-bytes = c .before .before in
+    let at-if1 = at-put-bytes .before .before in
+    let start = at-if1 .before .before in
+    let a = start .args in
+    at-put-bytes .put-bytes .ensures ∙ ap (λ (n : ℕ). writeBytes (now (a .bytes)) (a .at) n (a .value)) (sym (at-if1 .if1 .taken))
 
 returns-2 : tie.Need-returns-2
-returns-2 c = (c .before .before .put-bytes2) .ensures
+returns-2 c = c .before .before .put-bytes2 .ensures
 
 pub write-bytes-spec : {M : Type 1} → statement M
 write-bytes-spec =

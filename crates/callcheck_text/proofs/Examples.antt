@@ -1,0 +1,30 @@
+-- The examples hold, by computing. Assumes nothing.
+use mathlib.Core.Path.{refl}
+use Rattle.calls_in_turn.proofs.Computing as made
+use Rattle.chain.proofs.Computing as judged
+use Rattle.text.proofs.Computing as text
+use Rattle.callcheck_text.specs.Run.{linesFrom}
+use Rattle.callcheck_text.specs.Output.{checkedRows, verdictOf, endingText, outputOf}
+use Rattle.callcheck_text.specs.Examples.{Examples}
+
+pub examples : Examples
+unfolding made.computing judged.computing text.computing linesFrom checkedRows verdictOf endingText outputOf
+examples =
+    record {
+      nine-bytes = refl;
+      kinds = refl;
+      no-call = refl;
+      nothing = refl;
+      digits = refl;
+      large = refl;
+      gap-too-large = refl;
+      empty-line = refl;
+      few-fields = refl;
+      many-fields = refl;
+      last-stamp = refl;
+      outside = refl;
+      not-gap-apart = refl;
+      past-index = refl;
+      rows-33 = refl;
+      row-33 = refl;
+    }

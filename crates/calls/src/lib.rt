@@ -1,1 +1,0 @@
-// Calls cut into rows, and the chain of their operation records.

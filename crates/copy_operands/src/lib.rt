@@ -1,1 +1,0 @@
-// That residues of a copy row are sums of operands, and that residue 31 follows from others: theorems over the definitions, with no code.

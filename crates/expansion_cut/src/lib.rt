@@ -1,1 +1,0 @@
-// The expansion cuts its call into rows.

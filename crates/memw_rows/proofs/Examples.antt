@@ -1,8 +1,0 @@
--- The starred examples on CARRY hold, by computing. Assumes nothing.
-use mathlib.Core.Path.{refl}
-use Rattle.memw_rows.specs.Rows.{memwRow}
-use Rattle.memw_rows.specs.CarryExamples.{CarryExamples}
-
-pub carry-examples : CarryExamples
-unfolding memwRow
-carry-examples = record { no-carry = refl; only-six = refl; all-carries = refl }

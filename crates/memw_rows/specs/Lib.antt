@@ -1,5 +1,0 @@
-pub mod MemwColumns
-pub mod AlignedColumns
-pub mod RegisterColumns
-pub mod Rows
-pub mod CarryExamples

@@ -1,4 +1,0 @@
-pub mod Booleans
-pub mod Numbers
-pub mod Columns
-pub mod Same

@@ -1,4 +1,0 @@
-pub mod Digits
-pub mod Wrote
-pub mod Fields
-pub mod Computing

@@ -1,0 +1,9 @@
+pub mod Verdict
+pub mod Whole
+pub mod ReadBack
+pub mod Alone
+pub mod GoodRecords
+pub mod Made
+pub mod Accepted
+pub mod Demand
+pub mod Instances
