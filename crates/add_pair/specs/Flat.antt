@@ -20,7 +20,7 @@ use Rattle.add_pair.specs.declared.FlatForm.the-variants as form
 use Rattle.add_pair.specs.declared.Walk.{Walk}
 use Rattle.add_pair.specs.declared.Walk.the-variants as walk
 
--- ---- the form
+-- The form
 
 -- where the term at a place ends
 unfoldable pub afterTerm : List ℕ → Walk → Walk
@@ -53,7 +53,7 @@ flatForm l =
     cond (eqb (at l 0) 0) (cond (eqb (length l) 2) (form.Words (at l 1)) form.Malformed)
     (cond (eqb (at l 0) 1) (sumsForm l (afterSum l (walk.At 1))) form.Malformed)
 
--- ---- the operand
+-- The operand
 
 -- the signed number of a two's complement
 unfoldable pub signedOf : ℕ → ℤ

@@ -14,7 +14,7 @@ use Rattle.row_test.specs.Caps.{Caps}
 use Rattle.chain.specs.Link.{closed, unended, dead, shown, handedOn, linked, beforeOf}
 use Rattle.chain.specs.Standing.{standing, Stood, isUnended}
 
--- ---- seven equal numbers, as the code joins the tests
+-- Seven equal numbers, as the code joins the tests
 
 module _ (row previous : List ℕ) where
   pub goes-on-same : (((((eqb (at row FIRST) 0 && eqb (wordsAt row TIMESTAMP) (wordsAt previous TIMESTAMP))
@@ -27,7 +27,7 @@ module _ (row previous : List ℕ) where
   unfolding same
   goes-on-same = simp (and-assoc, and-true)
 
--- ---- whether a row may follow
+-- Whether a row may follow
 
 open-or : (t x : Bool) → cond t x true ≡ not t || x
 open-or true x = refl
@@ -54,7 +54,7 @@ module _ (row : List ℕ) where
   unfolding linked
   linked-unended previous = cond-and (eqb (at row MU) 1) (same (shown row) (handedOn previous))
 
--- ---- the row before
+-- The row before
 
 pub stood-none : (l : List ℕ) → length l ≡ 0 → Stood l
 unfolding Stood

@@ -3,10 +3,10 @@
 use mathlib.Core.Path.{_≡_, refl, sym, ap, _∙_}
 use mathlib.Core.Bool.{true, false, cond}
 use mathlib.Core.List.{List, []}
-use Prim.Native.Nat.{ℕ, _+_, _-_, _/_, _%_, _^_, _≤_, _<_}
+use Prim.Native.Nat.{ℕ, _+_, _*_, _-_, _/_, _%_, _^_, _≤_, _<_}
 use native.Mathlib.Omega.{arith}
 use borrow.Author.Tests.{eq-eqb, ne-eqb, le-leb, lt-leb}
-use lib.ListN.{length}
+use lib.ListN.{length, take, drop}
 use Rattle.lists.specs.Lists.{listed}
 use Rattle.lists.proofs.Listed.{listed-left, listed-over, listed-length}
 use Rattle.records.specs.Records.{recordCount, recordAt, recordsIn}
@@ -37,12 +37,23 @@ rest-all l whole = let e : recordCount COLUMNS l ≡ length l / COLUMNS - 0 = om
 pub rows-count : (l : List ℕ) → length l % COLUMNS ≡ 0 → length (tableRows l) ≡ length l / COLUMNS
 rows-count l whole = ap length (rest-all l whole) ∙ listed-length (recordAt COLUMNS l) 0 (length l / COLUMNS - 0) ∙ omega arith
 
+-- the row before row k: the `behind` numbers in front of it
+abbrev pub rowBefore : List ℕ → ℕ → ℕ → List ℕ
+rowBefore l behind k = take (COLUMNS * k - (COLUMNS * k - behind)) (drop (COLUMNS * k - behind) l)
+
+before-next : (l : List ℕ) (k : ℕ) → rowBefore l COLUMNS (k + 1) ≡ recordAt COLUMNS l k
+before-next l k =
+    let start : COLUMNS * (k + 1) - COLUMNS ≡ COLUMNS * k = omega arith in
+    let width : COLUMNS * (k + 1) - COLUMNS * k ≡ COLUMNS = omega arith in
+    rw (start, width)
+
 -- What a walk over the rows has when it comes to row k: what stands before it, and the answer as that of the rows from k on
 
-pub record Walk (gap : ℕ) (l previous : List ℕ) (k : ℕ) : Type 0 where
+pub record Walk (gap : ℕ) (l : List ℕ) (behind k : ℕ) : Type 0 where
   pub within : k ≤ length l / COLUMNS
-  pub stood : Stood previous
-  pub rest : chainAnswer gap l ≡ chainFrom gap (standing previous) k (restAt l k)
+  pub inside : behind ≤ COLUMNS * k
+  pub stood : Stood (rowBefore l behind k)
+  pub rest : chainAnswer gap l ≡ chainFrom gap (standing (rowBefore l behind k)) k (restAt l k)
 
 module _ (gap : ℕ) (l : List ℕ) where
   pub gap-large : 2 ^ 32 ≤ gap → Refused GapTooLarge ≡ chainAnswer gap l
@@ -58,15 +69,19 @@ module _ (gap : ℕ) (l : List ℕ) where
     unfolding chainAnswer
     checked = rw (lt-leb (2 ^ 32) gap h, eq-eqb (length l % COLUMNS) 0 whole)
 
-    pub walk-start : Walk gap l [] 0
+    pub walk-start : Walk gap l 0 0
     walk-start =
         record {
           within = omega arith;
+          inside = omega arith;
           stood = stood-none [] refl;
           rest = checked ∙ rw (standing-none [] refl) (ap (chainFrom gap closed 0) (rest-all l whole));
         }
 
-module _ (gap : ℕ) (l previous : List ℕ) (k : ℕ) (walk : Walk gap l previous k) where
+module _ (gap : ℕ) (l : List ℕ) (behind k : ℕ) (walk : Walk gap l behind k) where
+  abbrev previous : List ℕ
+  previous = rowBefore l behind k
+
   -- at a row
   module _ (h : k < length l / COLUMNS) (row : List ℕ) (is : row ≡ recordAt COLUMNS l k) where
     at-row : chainAnswer gap l
@@ -88,12 +103,14 @@ module _ (gap : ℕ) (l previous : List ℕ) (k : ℕ) (walk : Walk gap l previo
       pub from-broken : linked (standing previous) row ≡ false → Refused (LinkBroken k) ≡ chainAnswer gap l
       from-broken q = sym (at-row ∙ rw (fine, q))
 
-      pub walk-on : gap < 2 ^ 32 → length row ≡ COLUMNS → linked (standing previous) row ≡ true → Walk gap l row (k + 1)
+      pub walk-on : gap < 2 ^ 32 → length row ≡ COLUMNS → linked (standing previous) row ≡ true → Walk gap l COLUMNS (k + 1)
       walk-on small wide q =
+          let here : rowBefore l COLUMNS (k + 1) ≡ row = before-next l k ∙ sym is in
           record {
             within = omega arith;
-            stood = stood-row row wide (caps-of-fine gap small row wide fine);
-            rest = at-row ∙ rw (fine, q, standing-row row (omega arith));
+            inside = omega arith;
+            stood = rw here (stood-row row wide (caps-of-fine gap small row wide fine));
+            rest = at-row ∙ rw (fine, q, here, standing-row row (omega arith));
           }
 
   -- at the list's end

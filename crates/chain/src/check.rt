@@ -2,7 +2,6 @@
 // 18". Assumes nothing.
 ghost use mathlib.Core.Path.{_≡_};
 ghost use Rattle.chain.specs.Chain.{chainAnswer};
-ghost use Rattle.chain.specs.declared.ChainAnswer.the-variants.{Refused};
 use crate::ChainAnswer;
 use crate::ChainRefusal;
 use crate::link::linked;
@@ -17,57 +16,57 @@ use row_test::row::is_plain;
 
 // "The check stops at the first row and, in it, the first check that fails": nested loops over rows and residues, left by a label with row
 // and index. "A row is a run of 41 numbers of the list": each row is a slice of its own. A row that is right on plain numbers has nothing
-// to name; any other goes through 14, 15 and its residues by number, and is the last one looked at.
+// to name; any other goes through 14, 15 and its residues by number, and is the last one looked at. The row before is the `behind` numbers
+// in front of row k: none at the top of the list.
 pub fn check(gap: u64, rows: &[u64]) -> ChainAnswer
     ensures { λ r. ⌜ r ≡ chainAnswer gap (now (rows .entry)) ⌝ }
 {
     if 0x1_0000_0000 <= gap {
-        return refused(ChainRefusal::GapTooLarge);
+        return ChainAnswer::Refused {
+            why: ChainRefusal::GapTooLarge,
+        };
     }
     if rows.len() % NUM_COLUMNS != 0 {
-        return refused(ChainRefusal::NotRows);
+        return ChainAnswer::Refused {
+            why: ChainRefusal::NotRows,
+        };
     }
     let n = rows.len() / NUM_COLUMNS;
-    let mut previous = &rows[0..0];
+    let mut behind: usize = 0;
     let mut k: usize = 0;
-    'rows: loop {
+    let why = 'rows: loop {
+        let previous = &rows[NUM_COLUMNS * k - behind..NUM_COLUMNS * k];
         if n <= k {
             if unended(previous) {
-                break 'rows refused(ChainRefusal::NotEnded { rows: k as u64 });
+                break 'rows ChainRefusal::NotEnded { rows: k as u64 };
             }
-            break 'rows ChainAnswer::Passed { rows: k as u64 };
+            return ChainAnswer::Passed { rows: k as u64 };
         }
         let row = &rows[NUM_COLUMNS * k..NUM_COLUMNS * k + NUM_COLUMNS];
         if !is_plain(gap, row) {
             if first_large(row) < NUM_COLUMNS {
-                break 'rows refused(ChainRefusal::BadElement { row: k as u64 });
+                break 'rows ChainRefusal::BadElement { row: k as u64 };
             }
             if first_out(row) < NUM_COLUMNS {
-                break 'rows refused(ChainRefusal::BadRange { row: k as u64 });
+                break 'rows ChainRefusal::BadRange { row: k as u64 };
             }
             let parts = parts_of(gap, row);
             let mut i: u64 = 0;
             while i < NUM_RESIDUES {
                 if residue_with(row, parts, i) != 0 {
-                    break 'rows refused(ChainRefusal::BadResidue {
+                    break 'rows ChainRefusal::BadResidue {
                         row: k as u64,
                         index: i,
-                    });
+                    };
                 }
                 i += 1;
             }
         }
         if !linked(previous, row) {
-            break 'rows refused(ChainRefusal::LinkBroken { row: k as u64 });
+            break 'rows ChainRefusal::LinkBroken { row: k as u64 };
         }
-        previous = row;
+        behind = NUM_COLUMNS;
         k += 1;
-    }
-}
-
-// The answer that hands on a refusal.
-fn refused(why: ChainRefusal) -> ChainAnswer
-    ensures { λ r. ⌜ r ≡ Refused why ⌝ }
-{
+    };
     ChainAnswer::Refused { why }
 }

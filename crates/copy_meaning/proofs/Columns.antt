@@ -93,7 +93,7 @@ words-below row c w = omega arith
 pub halves-below : (row : List ℕ) (c : ℕ) → FourHalves row c → halvesAt row c < 2 ^ 64
 halves-below row c h = omega arith
 
--- ---- shared parts
+-- Shared parts
 
 pub halves-word : (row : List ℕ) (c : ℕ) → at row c < 2 ^ 16 → at row (c + 1) < 2 ^ 16
     → halvesWord row c ≡ at row c + 2 ^ 16 * at row (c + 1)

@@ -27,7 +27,7 @@ use Rattle.copy_meaning.proofs.RowIff.{row-iff}
 use Rattle.copy_meaning.proofs.Check.{range-elements}
 use Rattle.copy_meaning.proofs.Columns.{dst-words, count-words, res-halves, halves-word}
 
--- ---- the low halves that residues 16 and 18 ask for
+-- The low halves that residues 16 and 18 ask for
 
 -- the number in the two low halves of DST_RES
 abbrev lowAt : List ℕ → ℕ
@@ -78,7 +78,7 @@ module _ (gap : ℕ) (row : List ℕ) (range : InRange row) where
       gate-zero (subP 1 (at row IS-WRITE)) (subP (halvesWord row DST-RES) (at row DST))
       (λ l. ap (λ x. subP x (at row DST)) (low-halves ∙ e) ∙ sub-same (at row DST) (range-elements row range DST (lit< tt)))
 
--- ---- other fillings
+-- Other fillings
 
 -- a row with one number of it replaced by one in range
 set-range : (row : List ℕ) (k v : ℕ) → k < length row → v < getD columnLimits k 0 → InRange row → InRange (set row k v)
@@ -186,7 +186,7 @@ call-row gap o row h = go (h .same)
     go (inl e) = e
     go (inr e) = absurd (free (e .1) (never-free gap row (h .wide) (h .range)))
 
--- ---- one filling
+-- One filling
 
 -- the record read off a row does not look at DST_RES
 same-op : (row other : List ℕ) → BesidesDstRes row other → opAt row ≡ opAt other

@@ -28,7 +28,7 @@ use Rattle.copy_meaning.proofs.StepFacts.{StepFacts, width-bounds, fact
 use Rattle.copy_meaning.proofs.Decrement.{decr-back}
 use Rattle.copy_meaning.proofs.MadeRange.{limitsTo, made-below}
 
--- ---- on numbers
+-- On numbers
 
 one-kind : (a w : ℕ) → a < 2 → w < 2 → a + 2 * w ≤ 2 → a + w < 2
 one-kind a w ha hw h = omega arith
@@ -47,7 +47,7 @@ module _ (gap mu : ℕ) (o : Op) (f : StepFacts gap mu o) where
   abbrev row : List ℕ
   row = rowOf mu o
 
-  -- ---- the columns
+  -- The columns
 
   single-bit : at row SINGLE < 2
   unfolding rowOf
@@ -77,7 +77,7 @@ module _ (gap mu : ℕ) (o : Op) (f : StepFacts gap mu o) where
   unfolding rowOf
   tail-is e = ap (drop 1) (eight-back (o .piece .value) (f .piece .eight)) ∙ f .piece .tail e
 
-  -- ---- the numbers
+  -- The numbers
 
   kind-is : at row IS-SET + 2 * at row IS-WRITE ≡ o .call .kind
   kind-is = kind-read mu o (f .words)

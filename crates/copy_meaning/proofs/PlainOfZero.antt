@@ -25,7 +25,7 @@ use Rattle.copy_meaning.proofs.Columns.{halves-below, words-of, step-wi
 use Rattle.copy_meaning.proofs.Sums.{Sum, incr-sum, decr-sum, res-sum, gap-sum}
 use Rattle.copy_meaning.proofs.Flags.{live-product}
 
--- ---- on numbers
+-- On numbers
 
 both-le : (x y m : ℕ) → x < 2 → y < 2 → m < 2 → mulP (addP x y) (subP 1 m) ≡ 0 → (x ≤ m) × (y ≤ m)
 unfolding addP

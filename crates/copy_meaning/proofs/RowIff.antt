@@ -54,7 +54,7 @@ live-passes gap o g l = step-passes gap 1 o g l
 pub dead-passes : (gap : ℕ) (o : Op) → gap < 2 ^ 32 → DeadStep o → rowFault gap (rowOf 0 o) ≡ Fine
 dead-passes gap o g d = step-passes gap 0 o g d
 
--- ---- padding: a dead row of width 8 with 8 left
+-- Padding: a dead row of width 8 with 8 left
 
 abbrev paddingOp : Op
 paddingOp =

@@ -101,7 +101,7 @@ module _ (gap : ℕ) (row : List ℕ) (wide : length row ≡ COLUMNS) (range : I
       ∷ mu-com-wide i
       ∷ []))
 
-  -- ---- the step
+  -- The step
 
   fitting : Words (callAt row)
   fitting =

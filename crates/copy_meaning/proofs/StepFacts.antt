@@ -32,7 +32,7 @@ pub width-bounds : (w : ℕ) → (w ≡ 1) ⊎ (w ≡ 8) → (0 < w) × (w ≤ 8
 width-bounds w (inl e) = omega arith
 width-bounds w (inr e) = omega arith
 
--- ---- from the step
+-- From the step
 
 pub facts-of-step : (gap mu : ℕ) (o : Op) → RowStep gap mu o → StepFacts gap mu o
 facts-of-step gap zero o d =
@@ -73,7 +73,7 @@ facts-of-step gap (suc zero) o l =
     go (more e n a b) = omega (arith, w, l .words)
 facts-of-step gap (suc (suc mu)) o d = absurd d
 
--- ---- and back
+-- And back
 
 -- the way a live row moves, by its count and END
 move-of : (o : Op) (n e : ℕ) → o .call .count ≡ n → o .end ≡ e → o .first ≤ 1 → o .end ≤ 1 → Bounds 1 o → Move o

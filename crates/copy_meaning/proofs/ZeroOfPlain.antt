@@ -25,7 +25,7 @@ use Rattle.copy_meaning.proofs.Columns.{words-of, step-width}
 use Rattle.copy_meaning.proofs.Sums.{Sum, Carried, incr-carried, decr-carried, res-carried, gap-carried}
 use Rattle.copy_meaning.proofs.Flags.{live-product}
 
--- ---- on numbers
+-- On numbers
 
 equal-zero : (a b : ℕ) → b < p → a ≡ b → subP a b ≡ 0
 equal-zero a b h e = ap (λ x. subP x b) e ∙ sub-same b h

@@ -39,7 +39,7 @@ pub record Counts (width end count next : ℕ) : Type 0 where
   pub sum : next + width ≡ count + 2 ^ 64 * (1 - count)
   pub last : Last width end count
 
--- ---- the same of a row's columns
+-- The same of a row's columns
 
 abbrev pub FlagsAt : List ℕ → Type 0
 FlagsAt row =

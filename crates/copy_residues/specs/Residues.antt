@@ -11,7 +11,7 @@ use Rattle.field.specs.Constants.{inv16, inv32, inv48, inv64, negInv32, negInv6
 use Rattle.field.specs.Carries.{carryLow, carryHigh}
 use Rattle.copy_row.specs.Columns.{SRC, DST, COUNT, COUNT-DECR, DST-RES, FIRST, END, SINGLE, IS-SET, IS-WRITE, FIRST-WRITE, MU, MU-COM, MU-COM-WIDE}
 
--- ---- parts that residues share
+-- Parts that residues share
 
 -- the word of the two halves from column c on
 unfoldable pub halvesWord : List ℕ → ℕ → ℕ
@@ -62,7 +62,7 @@ borrow row =
     (mulP negSevenInv64 (at row SINGLE)))
     eightInv64
 
--- ---- the equations
+-- The equations
 
 -- first_or_end_implies_mu (FIRST, END) and functionality_implies_mu (IS_SET, IS_WRITE): a row with a mark is live
 unfoldable pub impliesMu : List ℕ → ℕ → ℕ → ℕ
@@ -116,7 +116,7 @@ noWrap row c = mulP (subP (at row MU) (borrow row)) (incrHigh row c)
 unfoldable pub gapNoWrap : ℕ → List ℕ → ℕ
 gapNoWrap gap row = mulP (at row IS-SET) (gapHigh gap row)
 
--- ---- by their numbers
+-- By their numbers
 
 -- residues 0 to 21
 abbrev pub front : ℕ → List ℕ → List ℕ

@@ -44,7 +44,7 @@ carry-value v s c hv hc e =
     difference : subP v s ≡ c * 2 ^ 32
     difference = unfold subP in omega arith
 
--- ---- the two carries of a sum of 64 bits
+-- The two carries of a sum of 64 bits
 
 module _ (a0 a1 b0 b1 s0 s1 : ℕ) (wa0 : Word a0) (wa1 : Word a1) (wb0 : Word b0) (wb1 : Word b1) (ws0 : Word s0) (ws1 : Word s1) where
   low-of-bit : carryLow a0 b0 s0 < 2 → a0 + b0 ≡ s0 + 2 ^ 32 * carryLow a0 b0 s0

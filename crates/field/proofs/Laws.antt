@@ -7,7 +7,7 @@ use native.Mathlib.Omega.{arith}
 use lib.Dec.{lit<}
 use Rattle.field.specs.Field.{p, addP, subP, mulP, bitP}
 
--- ---- products modulo any number
+-- Products modulo any number
 
 pub mod-mul-left : (a b q : ℕ) → (a % q * b) % q ≡ (a * b) % q
 mod-mul-left a b q =
@@ -16,7 +16,7 @@ mod-mul-left a b q =
 pub mod-mul-right : (a b q : ℕ) → (a * (b % q)) % q ≡ (a * b) % q
 mod-mul-right a b q = ap (λ x. x % q) (mul-comm a (b % q)) ∙ mod-mul-left b a q ∙ ap (λ x. x % q) (mul-comm b a)
 
--- ---- results are elements
+-- Results are elements
 
 pub add-below : (a b : ℕ) → addP a b < p
 unfolding addP
@@ -41,7 +41,7 @@ bit-zero zero h = refl
 bit-zero (suc zero) h = refl
 bit-zero (suc (suc x)) h = absurd (omega arith)
 
--- ---- sums
+-- Sums
 
 pub zero-addP : (a : ℕ) → a < p → addP 0 a ≡ a
 unfolding addP
@@ -52,7 +52,7 @@ pub addP-small : (a b : ℕ) → a + b < p → addP a b ≡ a + b
 unfolding addP
 addP-small a b h = omega arith
 
--- ---- differences
+-- Differences
 
 pub subP-zero : (a : ℕ) → a < p → subP a 0 ≡ a
 unfolding subP
@@ -72,7 +72,7 @@ pub sub-zero : (a b : ℕ) → a < p → b < p → subP a b ≡ 0 → a ≡ b
 unfolding subP
 sub-zero a b ha hb h = omega arith
 
--- ---- products
+-- Products
 
 pub mulP-comm : (a b : ℕ) → mulP a b ≡ mulP b a
 unfolding mulP
@@ -107,7 +107,7 @@ pub mulP-small : (a b : ℕ) → a * b < p → mulP a b ≡ a * b
 unfolding mulP
 mulP-small a b h = mod-eq-of-lt h
 
--- ---- the negative of an element, p less it
+-- The negative of an element, p less it
 
 -- x times k and y times b, where x is minus b and y is minus k
 swap : (m b k x y : ℕ) → x + b ≡ m → y + k ≡ m → (x * k) % m ≡ (y * b) % m

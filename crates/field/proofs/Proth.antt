@@ -16,7 +16,7 @@ same-mul q a b c d h k =
     sym (mod-mul-left a b q) ∙ ap (λ x. x * b % q) h ∙ mod-mul-left c b q
     ∙ sym (mod-mul-right c b q) ∙ ap (λ x. c * x % q) k ∙ mod-mul-right c d q
 
--- ---- exponents: a set E of numbers closed under sums and differences that holds g * d and g * 2^(k + 1), 0 < d < 2^(k + 1), holds g * 2^k
+-- Exponents: a set E of numbers closed under sums and differences that holds g * d and g * 2^(k + 1), 0 < d < 2^(k + 1), holds g * 2^k
 
 module _ (E : ℕ → Type 0) (none : E 0) (add : (a b : ℕ) → E a → E b → E (a + b)) (sub : (a b : ℕ) → E (a + b) → E a → E b) where
   multiple : (n a : ℕ) → E a → E (n * a)
@@ -42,7 +42,7 @@ module _ (E : ℕ → Type 0) (none : E 0) (add : (a b : ℕ) → E a → E b �
   half (suc k) g d l u h t =
       subst Halves (sym (pow-suc 2 k)) (λ g d. step (2 ^ k) (half k) g d (d / 2) (d % 2) (omega arith) (div-add-mod' d 2)) g d l u h t
 
--- ---- the certificate
+-- The certificate
 
 unfoldable pub square : ℕ → ℕ → ℕ
 square n y = y * y % n
@@ -113,7 +113,7 @@ divisor-bound n x k q e o dv two = go (decLe (2 ^ suc k) q)
         absurd
         (omega (arith, pigeonhole q (suc q) (λ i. x ^ i % q) (λ i l. mod-lt (x ^ i) (omega arith)) (λ i j l u. different i j l u (omega arith))))
 
--- ---- no zero divisors where there are no divisors: n % a has the same product with b, and is smaller than a
+-- No zero divisors where there are no divisors: n % a has the same product with b, and is smaller than a
 
 pub divides-factor : (n : ℕ) → ((a : ℕ) → 1 < a → a < n → ¬ (a ∣ n)) → (f a b : ℕ) → a ≤ f → 0 < a → a < n → n ∣ a * b → n ∣ b
 divides-factor n nd zero a b l z u h = absurd (omega arith)

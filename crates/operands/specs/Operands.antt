@@ -17,7 +17,7 @@ use Rattle.operands.specs.declared.OperandKind.{OperandKind}
 use Rattle.operands.specs.declared.OperandKind.the-variants.{Words, Sums}
 use Rattle.operands.specs.declared.TermCell.{TermCell}
 
--- ---- values
+-- Values
 
 -- a signed number as an element: `negsuc n` is -(n + 1)
 unfoldable pub signedP : ℤ → ℕ
@@ -57,7 +57,7 @@ lowValue row o = lowOf row (o .kind) (o .low)
 abbrev pub highValue : List ℕ → AddOperand → ℕ
 highValue row o = highOf row (o .kind) (o .high)
 
--- ---- what refusal 12 asks: at most four terms in each sum, and every column in the row
+-- What refusal 12 asks: at most four terms in each sum, and every column in the row
 
 -- whether the test holds of every number below n
 unfoldable pub every : (ℕ → Bool) → ℕ → Bool

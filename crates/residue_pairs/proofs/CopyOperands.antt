@@ -27,7 +27,7 @@ use Rattle.operands.proofs.Constructors.{dword-low, dword-high, constant-low, c
 use Rattle.residue_pairs.specs.CopyOperands.{Statement, Emitted, Gated, stepOperand}
 use Rattle.residue_pairs.proofs.Values.{step-low, step-high, word-low, word-high}
 
--- ---- a pair and a carry from the carries at hand
+-- A pair and a carry from the carries at hand
 
 -- the two carries of a sum, under the names of the residues' definitions
 record Carries (row : List ℕ) (lhs rhs sum : AddOperand) (c0 c1 : ℕ) : Type 0 where
@@ -59,7 +59,7 @@ module _ (gap : ℕ) (row : List ℕ) (e : Elements COLUMNS row)
   gate-times : (i gate : ℕ) → residue gap row i ≡ mulP gate c1 → Gated gap row i gate lhs rhs sum
   gate-times i gate f = record { carry = c1; answer = carry-accepted lhs rhs sum row e o ∙ ap Carry (sym (c .high)); product = f }
 
--- ---- the carries of the five sums, from the values of their operands
+-- The carries of the five sums, from the values of their operands
 
 module _ (row : List ℕ) where
   module _ (lhs rhs sum : AddOperand) {a b s : ℕ} (f : a ≡ lowValue row lhs) (g : b ≡ lowValue row rhs) (h : s ≡ lowValue row sum) where
@@ -96,7 +96,7 @@ module _ (row : List ℕ) where
       carries (dword SRC) (constant (pos gap)) (dword DST) (dword-low row SRC) (constant-low row gap h) (dword-low row DST)
       (dword-high row SRC) (constant-high row gap) (dword-high row DST)
 
--- ---- the residues
+-- The residues
 
 pub residues-are-pairs : Statement
 unfolding residue noWrap gapNoWrap gatedBit operandsInRow kindInRow sumInRow termInRow every conditionsInRow dword linear constant

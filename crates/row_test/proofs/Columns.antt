@@ -54,7 +54,7 @@ caps-of-fine gap g row wide e =
     let h = row-iff gap g row wide .0 e in
     subst Caps (sym (h .0)) (below-of-row gap _ _ (h .1) 2 (lit≤ tt))
 
--- ---- the tail
+-- The tail
 
 module _ (row : List ℕ) (wide : length row ≡ COLUMNS) where
   abbrev zeroAt : ℕ → Bool

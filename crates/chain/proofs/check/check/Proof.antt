@@ -28,17 +28,17 @@ use Rattle.chain.proofs.check.check.Statement.{statement}
 use Rattle.chain.proofs.check.check.Tie as tie
 
 abbrev Inv-loop : tie.InvT-loop
-Inv-loop gap rows n previous k row parts i₀ i =
+Inv-loop gap rows n behind k previous row parts i₀ i =
     (i ≤ RESIDUES) × (first (notZero gap row) 0 RESIDUES ≡ first (notZero gap row) i (RESIDUES - i))
 
 abbrev μ-loop : tie.MeasureT-loop
-μ-loop gap rows n previous k row parts i₀ i = RESIDUES - i
+μ-loop gap rows n behind k previous row parts i₀ i = RESIDUES - i
 
 abbrev Inv-rows : tie.InvT-rows
-Inv-rows gap rows n previous₀ k₀ previous k = Walk gap rows previous k
+Inv-rows gap rows n behind₀ k₀ behind k = Walk gap rows behind k
 
 abbrev μ-rows : tie.MeasureT-rows
-μ-rows gap rows n previous₀ k₀ previous k = n - k
+μ-rows gap rows n behind₀ k₀ behind k = n - k
 
 -- Places: the loop's top, row k in hand, its numbers tested, its columns tested, its parts at hand, residue i worked out
 
@@ -65,8 +65,8 @@ Joined = tie.Joined5 Inv-loop μ-loop Inv-rows μ-rows
 
 abbrev entry-of : Top → tie.Start Inv-loop μ-loop Inv-rows μ-rows
 entry-of c =
-    let past = c .before .before .before in
-    past .before .before
+    let whole = c .before .before in
+    whole .before .before
 
 abbrev gap-of : Top → ℕ
 gap-of c = entry-of c .args .gap
@@ -75,7 +75,7 @@ abbrev rows-of : Top → List ℕ
 rows-of c = now (entry-of c .args .rows)
 
 abbrev top-of : Row → Top
-top-of c = c .before .before
+top-of c = c .before .before .before
 
 abbrev large-row : Large → Row
 large-row c = c .before .before .before
@@ -135,7 +135,7 @@ module _ (c : Row) where
   abbrev at : Top
   at = top-of c
 
-  abbrev walk : Walk (gap-of at) (rows-of at) (now (at .rows .previous)) (at .rows .k)
+  abbrev walk : Walk (gap-of at) (rows-of at) (at .rows .behind) (at .rows .k)
   walk = at .rows .inv
 
 -- a residue that is not 0 is the lowest such
@@ -158,59 +158,49 @@ check-spec =
     μ-loop
     Inv-rows
     μ-rows
-    (λ c κs. search needs)
-    (λ c. c .refused .ensures ∙ gap-large _ _ (c .before .if1 .taken))
-    (λ c κs. search needs)
-    (λ c. c .refused2 .ensures ∙ not-rows _ _ (c .before .before .if1 .left) (c .before .if2 .taken))
+    (λ c. gap-large _ _ (c .if1 .taken))
+    (λ c. not-rows _ _ (c .before .if1 .left) (c .if2 .taken))
+    (λ c. walk-start _ _ (c .before .if1 .left) (c .if2 .left))
+    (λ c. search needs) (λ c. search needs) (λ c. search needs) (λ c. search needs)
     (λ c. search needs) (λ c. search needs) (λ c. search needs)
-    (λ c. walk-start _ _ (c .before .before .if1 .left) (c .before .if2 .left))
-    (λ c κs. c .before .rows .inv .stood)
-    (λ c κs. search needs)
+    (λ c κs. c .before .before .rows .inv .stood)
+    (λ c.
+    let past = c .before in
+    from-end _ _ _ _ (past .before .before .before .rows .inv) (omega arith) (sym (past .unended .ensures) ∙ c .if4 .left))
     (λ c. search needs) (λ c. search needs) (λ c. search needs) (λ c. search needs)
     (λ c. search needs) (λ c. search needs) (λ c. search needs)
     (λ c κs. (omega arith, wide c))
-    (λ c κs. search needs) (λ c κs. search needs)
-    (λ c κs. wide (large-row (c .before)))
     (λ c κs. search needs)
+    (λ c κs. wide (large-row (c .before)))
     (λ c κs. (elements-of (c .before), omega arith))
     (λ c. (omega arith, refl))
     (λ c κs. let parts = c .before .before in (elements-of (parts-out parts), parts .parts-of .ensures .0, omega arith))
-    (λ c κs. search needs) (λ c. search needs) (λ c. search needs)
+    (λ c. search needs) (λ c. search needs)
     (λ c.
     let worked = c .before in
     (omega arith, worked .before .before .loop .inv .1 ∙ first-miss _ _ _ (omega arith) (passed (right worked) (c .if8 .left))))
     (λ c κs. let row = joined-row c in ((wide row, caps-of-fine _ (omega arith) _ (wide row) (fine-row c)), walk row .stood))
-    (λ c κs. search needs) (λ c. search needs) (λ c. search needs)
+    (λ c. search needs) (λ c. search needs)
     (λ c.
     let j = c .before .before in
     let row = joined-row j in
     walk-on _ _ _ _ (walk row) (omega arith) _ (is row) (fine-row j) (omega arith) (wide row) (sym (c .before .linked .ensures) ∙ not-false _ (c .if9 .left)))
     (λ c.
-    let past = c .before .before in
-    let top = past .before .before in
-    c .refused3 .ensures ∙ from-unended _ _ _ _ (top .rows .inv) (omega arith) (sym (past .unended .ensures) ∙ c .before .if4 .taken))
-    (λ c.
     let past = c .before in
-    from-end _ _ _ _ (past .before .before .rows .inv) (omega arith) (sym (past .unended .ensures) ∙ c .if4 .left))
+    from-unended _ _ _ _ (past .before .before .before .rows .inv) (omega arith) (sym (past .unended .ensures) ∙ c .if4 .taken))
     (λ c.
-    let large = c .before .before in
-    let row = large-row large in
-    c .refused4 .ensures
-    ∙ from-element _ _ _ _ (walk row) (omega arith) _ (is row) (not-element _ _ (wide row) (rw (← large .first-large .ensures) (c .before .if6 .taken))))
+    let row = large-row (c .before) in
+    from-element _ _ _ _ (walk row) (omega arith) _ (is row) (not-element _ _ (wide row) (rw (← c .before .first-large .ensures) (c .if6 .taken))))
     (λ c.
-    let out = c .before .before in
+    let out = c .before in
     let large = out-large out in
     let row = large-row large in
-    c .refused5 .ensures
-    ∙ from-range _ _ _ _ (walk row) (omega arith) _ (is row)
-    (out-of-range _ _ (wide row) (rw (← large .first-large .ensures) (out .before .if6 .left)) (rw (← out .first-out .ensures) (c .before .if7 .taken))))
+    from-range _ _ _ _ (walk row) (omega arith) _ (is row)
+    (out-of-range _ _ (wide row) (rw (← large .first-large .ensures) (out .before .if6 .left)) (rw (← out .first-out .ensures) (c .if7 .taken))))
     (λ c.
-    let residue = c .before .before in
-    let row = large-row (out-large (parts-out (residue-parts residue))) in
-    c .refused6 .ensures ∙ from-residue _ _ _ _ (walk row) (omega arith) _ (is row) _ (lowest residue (c .before .if8 .taken)))
+    let row = large-row (out-large (parts-out (residue-parts (c .before)))) in
+    from-residue _ _ _ _ (walk row) (omega arith) _ (is row) _ (lowest (c .before) (c .if8 .taken)))
     (λ c.
-    let linked = c .before .before in
-    let j = linked .before in
+    let j = c .before .before in
     let row = joined-row j in
-    c .refused7 .ensures
-    ∙ from-broken _ _ _ _ (walk row) (omega arith) _ (is row) (fine-row j) (sym (linked .linked .ensures) ∙ not-true _ (c .before .if9 .taken))))
+    from-broken _ _ _ _ (walk row) (omega arith) _ (is row) (fine-row j) (sym (c .before .linked .ensures) ∙ not-true _ (c .if9 .taken))))
