@@ -202,7 +202,7 @@ fn write_routes(accesses: &[u64], register: &mut [u64], aligned: &mut [u64], gen
     }
 }
 
-// Writes one record behind the `ends` that each list has.
+// Writes one record behind the `ends` that each list has. A record is copied as 29 numbers: with the length in the code, no call is made.
 fn put_access(
     op: &[u64],
     ends: Counts,
@@ -218,11 +218,11 @@ fn put_access(
     let t = table_of(classify(op));
     match t {
         AccessTable::General => {
-            put_at(general, ACCESS_WIDTH * ends.general, op);
+            put_at(general, ACCESS_WIDTH * ends.general, &op[0..ACCESS_WIDTH]);
             one_more(t, ends)
         }
         AccessTable::Aligned => {
-            put_at(aligned, ACCESS_WIDTH * ends.aligned, op);
+            put_at(aligned, ACCESS_WIDTH * ends.aligned, &op[0..ACCESS_WIDTH]);
             one_more(t, ends)
         }
         AccessTable::Register => {

@@ -5,7 +5,8 @@ use mathlib.Core.List.{List}
 use Prim.Native.Nat.{ℕ, _*_}
 use native.Mathlib.Omega.{arith}
 use denote.Ref.{now}
-use lib.ListN.{length}
+use lib.ListN.{length, take}
+use lib.Seq.{take-all}
 use borrow.Author.Needs.{needs}
 use Rattle.lists.specs.Lists.{store}
 use Rattle.access.specs.Access.{ACCESS-WIDTH}
@@ -39,19 +40,23 @@ module _ (c : tie.After-table-of) where
   whole : length op ≡ ACCESS-WIDTH
   whole = good-length op (start-of c .pre .0)
 
+  -- the part that is copied is all of the record
+  part : take ACCESS-WIDTH op ≡ op
+  part = take-all ACCESS-WIDTH op (omega (arith, whole))
+
 put-at-requires : tie.Need-put-at-requires
 put-at-requires c κs =
-    let told = c .before .before in
+    let told = c .before .before .before in
     let found = told .before .before in
     let room = start-of found .pre .2 General (ap (sameTable General) (goes-to found General (told .enum-told .given .1))) in
-    omega (arith, whole found, room)
+    omega (arith, ap length (part found), whole found, room)
 
 put-at-requires-2 : tie.Need-put-at-requires-2
 put-at-requires-2 c κs =
-    let told = c .before .before in
+    let told = c .before .before .before in
     let found = told .before .before in
     let room = start-of found .pre .2 Aligned (ap (sameTable Aligned) (goes-to found Aligned (told .enum-told2 .given .1))) in
-    omega (arith, whole found, room)
+    omega (arith, ap length (part found), whole found, room)
 
 put-at-requires-3 : tie.Need-put-at-requires-3
 put-at-requires-3 c κs =
@@ -64,7 +69,8 @@ put-at-requires-3 c κs =
 returns : tie.Need-returns
 returns c =
     let put = c .before .before .before in
-    let told = put .before .before .before in
+    let lent = put .before .before .before in
+    let told = lent .before in
     let found = told .before .before in
     let a = start-of found .args in
     let e = goes-to found General (told .enum-told .given .1) in
@@ -72,19 +78,22 @@ returns c =
     (c .one-more .ensures ∙ ap (λ t. withOne t (a .ends)) (table-at found))
     (placed-not Register General (op found) (a .ends) (now (a .register)) e refl)
     (placed-not Aligned General (op found) (a .ends) (now (a .aligned)) e refl)
-    (placed-here General General (op found) (a .ends) (now (a .general)) e refl _ (put .put-at .ensures))
+    (placed-here General General (op found) (a .ends) (now (a .general)) e refl _
+    (put .put-at .ensures ∙ ap (store (now (a .general)) (ACCESS-WIDTH * a .ends .general)) (part found)))
 
 returns-2 : tie.Need-returns-2
 returns-2 c =
     let put = c .before .before .before in
-    let told = put .before .before .before in
+    let lent = put .before .before .before in
+    let told = lent .before in
     let found = told .before .before in
     let a = start-of found .args in
     let e = goes-to found Aligned (told .enum-told2 .given .1) in
     put-of
     (c .one-more2 .ensures ∙ ap (λ t. withOne t (a .ends)) (table-at found))
     (placed-not Register Aligned (op found) (a .ends) (now (a .register)) e refl)
-    (placed-here Aligned Aligned (op found) (a .ends) (now (a .aligned)) e refl _ (put .put-at2 .ensures))
+    (placed-here Aligned Aligned (op found) (a .ends) (now (a .aligned)) e refl _
+    (put .put-at2 .ensures ∙ ap (store (now (a .aligned)) (ACCESS-WIDTH * a .ends .aligned)) (part found)))
     (placed-not General Aligned (op found) (a .ends) (now (a .general)) e refl)
 
 returns-3 : tie.Need-returns-3
@@ -110,10 +119,16 @@ put-access-spec =
     (λ c κs. search needs) (λ c κs. search needs) (λ c. search needs)
     (λ c. let told = c .before .before in
     omega (arith, start-of (told .before .before) .pre .1 General))
+    (λ c. search needs) (λ c. search needs)
+    (λ c. let told = c .before .before in
+    omega (arith, whole (told .before .before)))
     put-at-requires
     (λ c κs. search needs) (λ c. search needs)
     (λ c. let told = c .before .before in
     omega (arith, start-of (told .before .before) .pre .1 Aligned))
+    (λ c. search needs) (λ c. search needs)
+    (λ c. let told = c .before .before in
+    omega (arith, whole (told .before .before)))
     put-at-requires-2
     (λ c κs. search needs) (λ c. search needs)
     (λ c κs. whole (c .before .before))
