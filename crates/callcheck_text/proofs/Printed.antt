@@ -56,9 +56,9 @@ verdict-refuses a e = rw (ne-eqb (a .number) 0 e)
 -- What is written
 
 -- a text that was written from the front on
-pub written : {out m : List ℕ} {r : ℕ} {t u : List ℕ} → Wrote out m 0 r t → t ≡ u → r ≤ 8192
+pub all-written : {out m : List ℕ} {r : ℕ} {t u : List ℕ} → Wrote out m 0 r t → t ≡ u → r ≤ 8192
     → ((r ≡ length u) × (r ≤ 8192)) × (m ≡ store out 0 u)
-written {out} {m} {r} {t} {u} w e h = ((w .place ∙ zero-add (length t) ∙ ap length e, h), w .list ∙ ap (store out 0) e)
+all-written {out} {m} {r} {t} {u} w e h = ((w .place ∙ zero-add (length t) ∙ ap length e, h), w .list ∙ ap (store out 0) e)
 
 -- or from an index on
 pub written-at : {out m : List ℕ} {at r limit : ℕ} {t u : List ℕ} → Wrote out m at r t → t ≡ u → r ≤ limit

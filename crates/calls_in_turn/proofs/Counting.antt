@@ -1,13 +1,13 @@
 -- The loop of `count`, over plain lists and numbers: what holds at its head, that one record keeps it, and what it ends with. Assumes
 -- nothing.
 use mathlib.Core.Path.{_≡_, sym, ap, _∙_}
-use mathlib.Core.Bool.{Bool, true, false}
 use mathlib.Core.List.{List, _∷_}
 use Prim.Native.Nat.{ℕ, _+_, _-_, _*_, _≤_, _<_}
 use native.Mathlib.Nat.{sub-zero}
 use native.Mathlib.Omega.{arith}
 use lib.Dec.{ltb}
 use Rattle.words.specs.Words.{bit}
+use Rattle.words.proofs.Bits.{bit-small}
 use Rattle.lists.specs.Lists.{listed}
 use Rattle.lists.proofs.Listed.{listed-left, listed-over}
 use Rattle.records.specs.Records.{recordCount, recordAt, recordsIn}
@@ -34,10 +34,6 @@ pub record CountAt (s : Setting) (n₀ : Lengths) (calls : List ℕ) (n ops acce
   pub few : accepted ≤ k
   pub ops-go : ops + allRecords s (callsFrom (left calls n k)) (behind n₀ ops) ≡ allRecords s (callsIn calls) n₀
   pub calls-go : accepted + allCalls s (callsFrom (left calls n k)) (behind n₀ ops) ≡ allCalls s (callsIn calls) n₀
-
-bit-small : (b : Bool) → bit b ≤ 1
-bit-small true = omega arith
-bit-small false = omega arith
 
 module _ (s : Setting) (n₀ : Lengths) (calls : List ℕ) where
   pub count-start : (n : ℕ) → n ≡ recordCount HANDED-WIDTH calls → CountAt s n₀ calls n 0 0 0

@@ -40,19 +40,19 @@ run-at c w b j wide h = getD-take w _ j 0 h ∙ cells-at b (c .src) w j h wide
 -- Choices between what was moved and what stood there
 
 -- what stands at byte y once r bytes were moved, if `stood` stood there before the call
-abbrev standing : ℕ → ℕ → List ℕ → ℕ → ℕ → ℕ
-standing g r done y stood = cond (leb g y && ltb (y - g) r) (getD done (y - g) 0) stood
+abbrev byteNow : ℕ → ℕ → List ℕ → ℕ → ℕ → ℕ
+byteNow g r done y stood = cond (leb g y && ltb (y - g) r) (getD done (y - g) 0) stood
 
 -- a byte that was moved
-standing-moved : (g r : ℕ) (done : List ℕ) (y stood : ℕ) → g ≤ y → y - g < r → standing g r done y stood ≡ getD done (y - g) 0
-standing-moved g r done y stood h k = rw (le-leb g y h, lt-ltb (y - g) r k)
+byte-moved : (g r : ℕ) (done : List ℕ) (y stood : ℕ) → g ≤ y → y - g < r → byteNow g r done y stood ≡ getD done (y - g) 0
+byte-moved g r done y stood h k = rw (le-leb g y h, lt-ltb (y - g) r k)
 
 -- a byte that was not, for want of distance or of rows
-standing-near : (g r : ℕ) (done : List ℕ) (y stood : ℕ) → y < g → standing g r done y stood ≡ stood
-standing-near g r done y stood h = rw (lt-leb g y h)
+byte-near : (g r : ℕ) (done : List ℕ) (y stood : ℕ) → y < g → byteNow g r done y stood ≡ stood
+byte-near g r done y stood h = rw (lt-leb g y h)
 
-standing-far : (g r : ℕ) (done : List ℕ) (y stood : ℕ) → g ≤ y → r ≤ y - g → standing g r done y stood ≡ stood
-standing-far g r done y stood h k = rw (le-leb g y h, le-ltb (y - g) r k)
+byte-far : (g r : ℕ) (done : List ℕ) (y stood : ℕ) → g ≤ y → r ≤ y - g → byteNow g r done y stood ≡ stood
+byte-far g r done y stood h k = rw (le-leb g y h, le-ltb (y - g) r k)
 
 -- V at byte n, p being its place in its row, all that is moved being l
 abbrev Says : List ℕ → ℕ → ℕ → List ℕ → ℕ → ℕ → Type 0
@@ -74,7 +74,7 @@ by-row b₀ g s done row more r w x p false e here there =
 
 -- b before the row at r of a Set that started at s, on bytes b₀, and has moved `done`
 abbrev Before : List ℕ → List ℕ → ℕ → ℕ → ℕ → List ℕ → Type 0
-Before b₀ b g s r done = (y : ℕ) → r ≤ y → s + y < length b → getD b (s + y) 0 ≡ standing g r done y (getD b₀ (s + y) 0)
+Before b₀ b g s r done = (y : ℕ) → r ≤ y → s + y < length b → getD b (s + y) 0 ≡ byteNow g r done y (getD b₀ (s + y) 0)
 
 module _
     (c : Call) (w : ℕ) (b₀ b : List ℕ) (g s r : ℕ) (done : List ℕ) (set : c .kind ≡ 1) (wide : w ≤ 8) (src : c .src ≡ s + r)
@@ -88,25 +88,25 @@ module _
       earlier : (n : ℕ) → n < r → getD (done ++ run c w b) n 0 ≡ getD done n 0
       earlier n l = List·getD-append done (run c w b) 0 n (omega arith)
 
-      kept : Outside (c .dst) w (s + y) → getD (turnBytes c w b) (s + y) 0 ≡ standing g r done y (getD b₀ (s + y) 0)
+      kept : Outside (c .dst) w (s + y) → getD (turnBytes c w b) (s + y) 0 ≡ byteNow g r done y (getD b₀ (s + y) 0)
       kept out = turn-kept c w b wide (s + y) fits-b out ∙ before y (omega arith) fits-b
 
       step : Where (c .dst) w (s + y) → (t : Bool) → leb g y ≡ t
-          → getD (turnBytes c w b) (s + y) 0 ≡ standing g (r + w) (done ++ run c w b) y (getD b₀ (s + y) 0)
+          → getD (turnBytes c w b) (s + y) 0 ≡ byteNow g (r + w) (done ++ run c w b) y (getD b₀ (s + y) 0)
       step (below l) true e =
           let up : g ≤ y = leb-true g y e in
           kept (inl l)
-          ∙ standing-moved g r done y _ up (omega arith)
+          ∙ byte-moved g r done y _ up (omega arith)
           ∙ sym (earlier (y - g) (omega arith))
-          ∙ sym (standing-moved g (r + w) (done ++ run c w b) y _ up (omega arith))
+          ∙ sym (byte-moved g (r + w) (done ++ run c w b) y _ up (omega arith))
       step (below l) false e =
           let near : y < g = leb-false g y e in
-          kept (inl l) ∙ standing-near g r done y _ near ∙ sym (standing-near g (r + w) (done ++ run c w b) y _ near)
+          kept (inl l) ∙ byte-near g r done y _ near ∙ sym (byte-near g (r + w) (done ++ run c w b) y _ near)
       step (above l) t e =
           let up : g ≤ y = omega arith in
           kept (inr l)
-          ∙ standing-far g r done y _ up (omega arith)
-          ∙ sym (standing-far g (r + w) (done ++ run c w b) y _ up (omega arith))
+          ∙ byte-far g r done y _ up (omega arith)
+          ∙ sym (byte-far g (r + w) (done ++ run c w b) y _ up (omega arith))
       step (inside j l q) t e =
           let up : g ≤ y = omega arith in
           let place : length done + j ≡ y - g = omega arith in
@@ -115,13 +115,13 @@ module _
           ∙ sym (run-at c w b j wide l)
           ∙ sym (getD-append-add done (run c w b) j 0)
           ∙ ap (λ (n : ℕ). getD (done ++ run c w b) n 0) place
-          ∙ sym (standing-moved g (r + w) (done ++ run c w b) y _ up (omega arith))
+          ∙ sym (byte-moved g (r + w) (done ++ run c w b) y _ up (omega arith))
 
   -- byte x of the row at r, all that is moved being `done`, the row and `more`
   row-byte : (more : List ℕ) (x : ℕ) → x < w → s + (r + x) < length b → Says b₀ g s (done ++ (run c w b ++ more)) (r + x) x
   row-byte more x h fits = here ∙ step (leb g (r + x)) (ltb x g) refl refl
     where
-      here : getD (done ++ (run c w b ++ more)) (r + x) 0 ≡ standing g r done (r + x) (getD b₀ (s + (r + x)) 0)
+      here : getD (done ++ (run c w b ++ more)) (r + x) 0 ≡ byteNow g r done (r + x) (getD b₀ (s + (r + x)) 0)
       here =
           let e : r + x ≡ length done + x = omega arith in
           let q : c .src + x ≡ s + (r + x) = omega arith in
@@ -133,19 +133,19 @@ module _
           ∙ before (r + x) (omega arith) fits
 
       step : (t u : Bool) → leb g (r + x) ≡ t → ltb x g ≡ u
-          → standing g r done (r + x) (getD b₀ (s + (r + x)) 0)
+          → byteNow g r done (r + x) (getD b₀ (s + (r + x)) 0)
           ≡ cond (leb g (r + x) && ltb x g) (getD (done ++ (run c w b ++ more)) (r + x - g) 0) (getD b₀ (s + (r + x)) 0)
-      step false u e f = standing-near g r done (r + x) _ (leb-false g (r + x) e) ∙ rw e
+      step false u e f = byte-near g r done (r + x) _ (leb-false g (r + x) e) ∙ rw e
       step true true e f =
           let up : g ≤ r + x = leb-true g (r + x) e in
           let l : x < g = ltb-true x g f in
-          standing-moved g r done (r + x) _ up (omega arith)
+          byte-moved g r done (r + x) _ up (omega arith)
           ∙ sym (List·getD-append done (run c w b ++ more) 0 (r + x - g) (omega arith))
           ∙ rw (e, f)
       step true false e f =
           let up : g ≤ r + x = leb-true g (r + x) e in
           let l : g ≤ x = ltb-false x g f in
-          standing-far g r done (r + x) _ up (omega arith) ∙ rw (e, f)
+          byte-far g r done (r + x) _ up (omega arith) ∙ rw (e, f)
 
 -- Row by row
 
@@ -181,9 +181,9 @@ moves-all ws c b g cut set apart fits x h =
     start : Before b b g (c .src) 0 []
     start y up fits = step (leb g y) refl
       where
-        step : (t : Bool) → leb g y ≡ t → getD b (c .src + y) 0 ≡ standing g 0 [] y (getD b (c .src + y) 0)
-        step true e = sym (standing-far g 0 [] y _ (leb-true g y e) (omega arith))
-        step false e = sym (standing-near g 0 [] y _ (leb-false g y e))
+        step : (t : Bool) → leb g y ≡ t → getD b (c .src + y) 0 ≡ byteNow g 0 [] y (getD b (c .src + y) 0)
+        step true e = sym (byte-far g 0 [] y _ (leb-true g y e) (omega arith))
+        step false e = sym (byte-near g 0 [] y _ (leb-false g y e))
 
 -- Gaps of 8 and more: no row reaches back over the gap
 

@@ -74,8 +74,8 @@ pub middle-room : (hi : ℕ) → hi % 2 ^ 32 * 0xffff_ffff + 2 ^ 64 < p + p
 middle-room hi = omega arith
 
 -- the second sum as it is, and with p taken away
-pub kept : (low middle : ℕ) → low + middle + 0 * p ≡ low + middle
-kept low middle = omega arith
+pub sum-kept : (low middle : ℕ) → low + middle + 0 * p ≡ low + middle
+sum-kept low middle = omega arith
 
 pub kept-below : (low middle : ℕ) → middle ≤ p → low < p - middle → low + middle < p
 kept-below low middle h k = omega arith

@@ -35,7 +35,7 @@ use Rattle.round_trip.specs.RoundTrip.{TypedTrip}
 use Rattle.round_trip.specs.declared.RoundTripAnswer.{RoundTripAnswer}
 use Rattle.round_trip.specs.declared.RoundTripAnswer.the-variants.{Passed, TooManyRecords, BufferShort}
 use Rattle.round_trip.proofs.RoundTripAnswer.{the-type}
-use Rattle.round_trip.proofs.Whole.{records-length, decidedOf, made, decided-is}
+use Rattle.round_trip.proofs.Whole.{handed-length, decidedOf, made, decided-is}
 
 -- `decide`
 
@@ -124,7 +124,7 @@ module _ (t : Trip) (typed : TypedTrip t) (a : RoundTripAnswer) (e : a ≡ decid
       let f = decided-found _ _ _ _ _ rows ops calls (sym e ∙ q) in
       record {
         made = made t typed (f .few) (f .room) ∙ ap Made (sym (f .rows-are));
-        records = records-length t ∙ ap (λ n. OP-WIDTH * n) (sym (f .ops-are));
+        records = handed-length t ∙ ap (λ n. OP-WIDTH * n) (sym (f .ops-are));
       }
 
   pub ended-through : (rows ops calls : ℕ) → a ≡ Passed rows ops calls → (after : TripLent) → after ≡ tripRun t rows

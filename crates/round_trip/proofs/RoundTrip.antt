@@ -10,12 +10,12 @@ use Rattle.records.specs.RowCount.{rowCount}
 use Rattle.whole_calls.specs.Demand.{Passes}
 use Rattle.round_trip.specs.Trip.{TripLent, Trip, written, RoundTripNumbers, tripNumbers, tripRun, tripAfter}
 use Rattle.round_trip.specs.RoundTrip.{TypedTrip, tripNumber, recordsCount, rowsCount, Short, CameBack, RoundTrip}
-use Rattle.round_trip.proofs.Whole.{recordsAhead, records-length, calls-length, ShortOf, Way, over, short, passed, way}
+use Rattle.round_trip.proofs.Whole.{recordsAhead, handed-length, calls-length, ShortOf, Way, over, short, passed, way}
 use Rattle.round_trip.proofs.Whole.{trip-over, trip-short, trip-passed, by-demand, read-ops, read-calls}
 
 module _ (t : Trip) where
   count-is : recordsCount t ≡ recordsAhead t
-  count-is = omega (arith, records-length t)
+  count-is = omega (arith, handed-length t)
 
   rows-are : rowCount (recordsAhead t) ≡ rowsCount t
   rows-are = ap rowCount (sym count-is)
@@ -23,12 +23,12 @@ module _ (t : Trip) where
   -- a buffer that is short, by the counts and by the lists
   short-lists : ShortOf t → Short t
   short-lists (inl h) = inl (omega (arith, rows-are))
-  short-lists (inr (inl h)) = inr (inl (omega (arith, records-length t)))
+  short-lists (inr (inl h)) = inr (inl (omega (arith, handed-length t)))
   short-lists (inr (inr h)) = inr (inr (omega (arith, calls-length t)))
 
   short-counts : Short t → ShortOf t
   short-counts (inl h) = inl (omega (arith, rows-are))
-  short-counts (inr (inl h)) = inr (inl (omega (arith, records-length t)))
+  short-counts (inr (inl h)) = inr (inl (omega (arith, handed-length t)))
   short-counts (inr (inr h)) = inr (inr (omega (arith, calls-length t)))
 
   module _ (typed : TypedTrip t) where

@@ -53,8 +53,8 @@ recordsAhead t = allRecords (settingOf t) (callsIn (t .calls)) (lengths (t .list
 abbrev pub callsAhead : Trip → ℕ
 callsAhead t = allCalls (settingOf t) (callsIn (t .calls)) (lengths (t .lists .slices))
 
-pub records-length : (t : Trip) → length (recordsHanded t) ≡ OP-WIDTH * recordsAhead t
-records-length t = records-counted (settingOf t) (callsIn (t .calls)) (t .lists .slices)
+pub handed-length : (t : Trip) → length (recordsHanded t) ≡ OP-WIDTH * recordsAhead t
+handed-length t = records-counted (settingOf t) (callsIn (t .calls)) (t .lists .slices)
 
 pub calls-length : (t : Trip) → length (callsHanded t) ≡ CALL-WIDTH * callsAhead t
 calls-length t = calls-counted (settingOf t) (callsIn (t .calls)) (t .lists .slices)
@@ -110,7 +110,7 @@ module _ (t : Trip) (typed : TypedTrip t) where
 
   ops-count : length (opsOf ks) ≡ recordsAhead t
   ops-count =
-      omega (arith, flatMap-length OP-WIDTH opRecord (opsOf ks) (records-wide (t .gap) (opsOf ks) live), ap length wrote, records-length t)
+      omega (arith, flatMap-length OP-WIDTH opRecord (opsOf ks) (records-wide (t .gap) (opsOf ks) live), ap length wrote, handed-length t)
 
   abbrev makerFor : ℕ → TableAnswer
   makerFor n =
@@ -158,7 +158,7 @@ module _ (t : Trip) (typed : TypedTrip t) where
         where
           go : (length (t .lists .opsBack) < OP-WIDTH * recordsAhead t) ⊎ (length (t .lists .callsBack) < CALL-WIDTH * callsAhead t)
               → (length (t .lists .opsBack) < length (recordsHanded t)) ⊎ (length (t .lists .callsBack) < length (callsHanded t))
-          go (inl h) = inl (omega (arith, records-length t))
+          go (inl h) = inl (omega (arith, handed-length t))
           go (inr h) = inr (omega (arith, calls-length t))
 
       module _ (a : OP-WIDTH * recordsAhead t ≤ length (t .lists .opsBack)) (b : CALL-WIDTH * callsAhead t ≤ length (t .lists .callsBack)) where
@@ -166,11 +166,11 @@ module _ (t : Trip) (typed : TypedTrip t) where
             × (opsAfter (reader t rows) (written t rows) (t .lists .opsBack) ≡ store (t .lists .opsBack) 0 (recordsHanded t))
             × (callsAfter (reader t rows) (written t rows) (t .lists .callsBack) ≡ store (t .lists .callsBack) 0 (callsHanded t))
         back =
-            by-demand .1 (t .lists .opsBack) (t .lists .callsBack) .reads (omega (arith, records-length t)) (omega (arith, calls-length t))
+            by-demand .1 (t .lists .opsBack) (t .lists .callsBack) .reads (omega (arith, handed-length t)) (omega (arith, calls-length t))
 
         pub trip-passed : tripNumbers t ≡ through t
         trip-passed =
-            let n : length (recordsHanded t) / OP-WIDTH ≡ recordsAhead t = omega (arith, records-length t) in
+            let n : length (recordsHanded t) / OP-WIDTH ≡ recordsAhead t = omega (arith, handed-length t) in
             let m : length (callsHanded t) / CALL-WIDTH ≡ callsAhead t = omega (arith, calls-length t) in
             on-reader (read.Read (recordsAhead t) (callsAhead t)) (back .0 ∙ rw (n, m))
 

@@ -40,13 +40,13 @@ pick-same true = refl
 pick-same false = refl
 
 -- one digit, with what is known of the rest
-step : (l : List ℕ) (v b : ℕ) (d t : Bool) → isDigit b ≡ d → ltb (10 * v + (b - 48)) TOP ≡ t
+number-step : (l : List ℕ) (v b : ℕ) (d t : Bool) → isDigit b ≡ d → ltb (10 * v + (b - 48)) TOP ≡ t
     → ((w : ℕ) → w < TOP → numberFrom w l ≡ read w l)
     → numberFrom v (b ∷ l) ≡ read v (b ∷ l)
 unfolding numberFrom read digitOf allDigits decimalFrom
-step l v b false t e f ih = rw e
-step l v b true true e f ih = rw (e, f) (ih (10 * v + (b - 48)) (ltb-true (10 * v + (b - 48)) TOP f))
-step l v b true false e f ih =
+number-step l v b false t e f ih = rw e
+number-step l v b true true e f ih = rw (e, f) (ih (10 * v + (b - 48)) (ltb-true (10 * v + (b - 48)) TOP f))
+number-step l v b true false e f ih =
     let w = 10 * v + (b - 48) in
     let h : ltb (decimalFrom w l) TOP ≡ false = le-ltb (decimalFrom w l) TOP (omega (arith, decimal-up l w, ltb-false w TOP f)) in
     rw (e, f, h, and-false (allDigits l))
@@ -55,7 +55,7 @@ step l v b true false e f ih =
 pub number-from : (l : List ℕ) (v : ℕ) → v < TOP → numberFrom v l ≡ read v l
 unfolding numberFrom read allDigits decimalFrom
 number-from [] v h = rw (lt-ltb _ _ h)
-number-from (b ∷ l) v h = step l v b (isDigit b) (ltb (10 * v + (b - 48)) TOP) refl refl (number-from l)
+number-from (b ∷ l) v h = number-step l v b (isDigit b) (ltb (10 * v + (b - 48)) TOP) refl refl (number-from l)
 
 -- a text of 1 to 20 bytes is read from 0; another is no number
 pub number-whole : (l : List ℕ) → 0 < length l → length l ≤ 20 → numberOf l ≡ numberFrom 0 l

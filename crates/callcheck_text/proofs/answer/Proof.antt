@@ -11,7 +11,7 @@ use Rattle.text.specs.declared.Parsed.{Parsed}
 use Rattle.text.proofs.Wrote.{wrote}
 use Rattle.callcheck_text.specs.Run.{linesFrom}
 use Rattle.callcheck_text.specs.Output.{endingText, start}
-use Rattle.callcheck_text.proofs.Printed.{written, no-gap, wide-gap, good-gap}
+use Rattle.callcheck_text.proofs.Printed.{all-written, no-gap, wide-gap, good-gap}
 use Rattle.callcheck_text.proofs.answer.Statement.{statement}
 use Rattle.callcheck_text.proofs.answer.Tie as tie
 
@@ -25,7 +25,7 @@ no-gap-line c =
     let at-parse-gap = at-enum-told .before .before in
     let line = c .put-refused .ensures in
     let at-gap = at-parse-gap in
-    written (wrote (line .0 .0) (line .1))
+    all-written (wrote (line .0 .0) (line .1))
     (no-gap _ (read-gap (at-gap .before .head .ensures) (at-gap .parse-gap .ensures) (at-enum-told .enum-told .given .1)))
     (omega arith)
 
@@ -36,7 +36,7 @@ gap-too-large c =
     let line = c .put-refused2 .ensures in
     let at-value = at-first in
     let at-gap = at-value .before .before in
-    written (wrote (line .0 .0) (line .1))
+    all-written (wrote (line .0 .0) (line .1))
     (wide-gap _ _ (read-gap (at-gap .before .head .ensures) (at-gap .parse-gap .ensures) (at-value .first .given .1))
     (at-if1 .if1 .taken))
     (omega arith)
@@ -49,7 +49,7 @@ call-lines c =
     let at-value = at-first in
     let at-gap = at-value .before .before in
     let gap = at-value .first .given in
-    written (wrote (line .0 .0 ∙ sym (zero-add _)) (line .1))
+    all-written (wrote (line .0 .0 ∙ sym (zero-add _)) (line .1))
     (ap (λ (l : List ℕ). endingText (gap .0 .0) (linesFrom (under (gap .0 .0)) 2 (lines l) start)) (c .before .tail .ensures)
     ∙ good-gap _ _ (read-gap (at-gap .before .head .ensures) (at-gap .parse-gap .ensures) (gap .1)) (at-if1 .if1 .left))
     (omega arith)

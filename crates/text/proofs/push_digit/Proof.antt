@@ -8,8 +8,8 @@ use Rattle.text.proofs.Numbers.{digit-low, digit-high, digit-past, digi
 use Rattle.text.proofs.push_digit.Statement.{statement}
 use Rattle.text.proofs.push_digit.Tie as tie
 
-next : tie.Need-returns-5
-next c =
+digit-taken : tie.Need-returns-5
+digit-taken c =
     let at-if2 = c .before .before .before in
     let a = at-if2 .before .before .args in
     ap (λ (x : ℕ). Number (10 * a .value + (x - 48))) (c .before .wide .ensures .0)
@@ -36,4 +36,4 @@ push-digit-spec =
     (λ c κs. search needs) (λ c. search needs) (λ c. search needs) (λ c. search needs)
     past
     (λ c. search needs) (λ c. search needs)
-    next)
+    digit-taken)

@@ -7,7 +7,7 @@ use lib.ListN.{length-take}
 use borrow.Author.Needs.{needs}
 use Rattle.text.proofs.Wrote.{wrote}
 use Rattle.callcheck_text.specs.Run.{ROWS}
-use Rattle.callcheck_text.proofs.Printed.{rows-most, written, ran-done, ran-refused}
+use Rattle.callcheck_text.proofs.Printed.{rows-most, all-written, ran-done, ran-refused}
 use Rattle.callcheck_text.proofs.print.put_calls.Statement.{statement}
 use Rattle.callcheck_text.proofs.print.put_calls.Tie as tie
 
@@ -32,7 +32,7 @@ all-accepted c =
     let ran = to-ran (put .before) in
     let line = put .put-done .ensures in
     let lines = to-lines (ran .before .before) .run-lines .ensures in
-    written (wrote (line .0 .0 ∙ sym (zero-add _)) (line .1)) (ran-done _ _ _ _ (lines .1) _ (ran .ran .given .1)) (omega arith)
+    all-written (wrote (line .0 .0 ∙ sym (zero-add _)) (line .1)) (ran-done _ _ _ _ (lines .1) _ (ran .ran .given .1)) (omega arith)
 
 line-refused : tie.Need-returns-2
 line-refused c =
@@ -40,7 +40,7 @@ line-refused c =
     let ran = put .before .before .before in
     let line = put .put-refused .ensures in
     let lines = to-lines (ran .before .before) .run-lines .ensures in
-    written (wrote (line .0 .0) (line .1)) (ran-refused _ _ _ _ (lines .1) _ _ (ran .ran2 .given .1)) (omega arith)
+    all-written (wrote (line .0 .0) (line .1)) (ran-refused _ _ _ _ (lines .1) _ _ (ran .ran2 .given .1)) (omega arith)
 
 pub put-calls-spec : {M : Type 1} → statement M
 put-calls-spec =

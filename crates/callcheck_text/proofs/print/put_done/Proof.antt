@@ -4,7 +4,7 @@ use native.Mathlib.Omega.{arith}
 use native.Mathlib.Nat.{zero-add}
 use borrow.Author.Needs.{needs}
 use Rattle.text.proofs.Wrote.{wrote, then}
-use Rattle.callcheck_text.proofs.Printed.{written, done-text}
+use Rattle.callcheck_text.proofs.Printed.{all-written, done-text}
 use Rattle.callcheck_text.proofs.print.put_done.Statement.{statement}
 use Rattle.callcheck_text.proofs.print.put_done.Tie as tie
 
@@ -18,7 +18,7 @@ returns c =
     let line = at-put-verdict .put-verdict .ensures in
     let verdict = at-verdict .verdict .ensures in
     let all = then (wrote (rows .0 .0 ∙ sym (zero-add _)) (rows .1)) (wrote (line .0 .0) (line .1)) in
-    written all (done-text _ _ _ verdict) (omega arith)
+    all-written all (done-text _ _ _ verdict) (omega arith)
 
 pub put-done-spec : {M : Type 1} → statement M
 put-done-spec =

@@ -6,7 +6,7 @@ use mathlib.Core.Logic.{⊎-elim}
 use Prim.Native.Nat.{ℕ, _+_, _-_, _*_, _%_, _^_, _<_}
 use mathlib.Core.Path.{_≡_}
 use Rattle.field.specs.Field.{p}
-use Rattle.field.proofs.Reduction.{reduced, middle-below, middle-room, kept, kept-below, taken, taken-below, top-below, borrowed}
+use Rattle.field.proofs.Reduction.{reduced, middle-below, middle-room, sum-kept, kept-below, taken, taken-below, top-below, borrowed}
 use Rattle.field.proofs.element.reduce.Statement.{statement}
 use Rattle.field.proofs.element.reduce.Tie as tie
 
@@ -15,7 +15,7 @@ returns c =
     let hi : ℕ = c .before .before .before .args .hi in
     let low : ℕ = c .before .before .if1 .low in
     let middle : ℕ = hi % 2 ^ 32 * 0xffff_ffff in
-    let e : low + middle + 0 * p ≡ low + middle = kept low middle in
+    let e : low + middle + 0 * p ≡ low + middle = sum-kept low middle in
     let l : low + middle < p = kept-below low middle (middle-below hi) (c .before .if2 .taken) in (
       ⊎-elim (λ w. reduced 0 0 _ _ low _ (omega arith) e l)
           (λ w. reduced 1 0 _ _ low _ (borrowed _ _ low (top-below hi (c .before .before .before .fits .hi .fits)) (w .1)) e l)
