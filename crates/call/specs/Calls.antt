@@ -2,8 +2,8 @@
 -- holds the call as it remains at its row: src and dst where this row starts, count what is left with this row's bytes. Assumes nothing.
 use Prim.Native.Nat.{ℕ}
 use mathlib.Core.List.{List}
-use mathlib.Core.Bool.{cond}
-use lib.Dec.{eqb}
+use mathlib.Core.Bool.{Bool, cond}
+use lib.Dec.{eqb, ltb}
 use Rattle.call.specs.declared.CopyCall.{CopyCall}
 use Rattle.call.specs.declared.Functionality.{Functionality}
 use Rattle.call.specs.declared.Functionality.the-variants.{Copy, Set, Write}
@@ -33,6 +33,10 @@ abbrev pub kindNumber : Functionality → ℕ
 kindNumber Copy = 0
 kindNumber Set = 1
 kindNumber Write = 2
+
+-- no kind has this number
+abbrev pub noKind : ℕ → Bool
+noKind k = ltb 2 k
 
 -- the kind of a number that is at most 2
 abbrev pub kindOf : ℕ → Functionality

@@ -2,7 +2,7 @@
 pub mod flat;
 
 ghost use mathlib.Core.Path.{_≡_};
-ghost use Rattle.call.specs.Calls.{kindNumber, kindOf};
+ghost use Rattle.call.specs.Calls.{kindNumber, noKind, kindOf};
 ghost use Rattle.call.specs.Ops.{goodOp};
 ghost use Rattle.call.specs.Flat.{goodCall};
 use records::tables::within_limits;
@@ -35,6 +35,13 @@ pub fn kind_number(kind: Functionality) -> u64
         Functionality::Set => 1,
         Functionality::Write => 2,
     }
+}
+
+// No kind has this number.
+pub fn no_kind(kind: u64) -> bool
+    ensures { λ r. ⌜ r ≡ noKind kind ⌝ }
+{
+    2 < kind
 }
 
 // The kind of a number; of one above 2, Write.

@@ -1,10 +1,12 @@
 -- The three ways out, by what the code has tested. Assumes nothing.
 use mathlib.Core.Path.{_≡_, sym, ap, _∙_}
+use mathlib.Core.Bool.{true, false}
 use mathlib.Core.List.{List, [], _∷_}
-use Prim.Native.Nat.{ℕ, _≤_, _<_}
-use borrow.Author.Tests.{eq-eqb, ne-eqb, lt-ltb, le-ltb}
+use Prim.Native.Nat.{ℕ}
+use borrow.Author.Tests.{eq-eqb, ne-eqb}
 use Rattle.answer.specs.Numbers.{refused}
 use Rattle.answer.specs.declared.Answer.{Answer}
+use Rattle.call.specs.Calls.{noKind}
 use Rattle.expansion.specs.Tries.{under, Lent, Try}
 use Rattle.expansion.specs.Refusals.{ExpansionNumbers}
 use Rattle.expansion.specs.Expansion.{Done}
@@ -12,19 +14,19 @@ use Rattle.exports.specs.FlatExpansion.{flatNumbers, flatAfter, FlatDone
 
 module _ (gap : ℕ) (t : Try) (counts : List ℕ) where
   -- a number that is no kind
-  pub ten : 2 < t .call .kind → (r : Answer) → r ≡ refused 10 0 → FlatDone gap t counts r (t .slices) counts
+  pub ten : noKind (t .call .kind) ≡ true → (r : Answer) → r ≡ refused 10 0 → FlatDone gap t counts r (t .slices) counts
   unfolding flatNumbers flatAfter
-  ten h r e = let past = lt-ltb 2 (t .call .kind) h in record { answer = rw past e; slices = rw past; counts = rw past }
+  ten h r e = record { answer = rw h e; slices = rw h; counts = rw h }
 
   -- the expansion's numbers n, and what it left
-  module _ (h : t .call .kind ≤ 2) (n : ExpansionNumbers) (after : Lent) (done : Done (under gap) t n after) (r : Answer) (e : r ≡ n .answer) where
+  module _ (h : noKind (t .call .kind) ≡ false) (n : ExpansionNumbers) (after : Lent) (done : Done (under gap) t n after) (r : Answer) (e : r ≡ n .answer) where
     same : n ≡ flatNumbers gap t
     unfolding flatNumbers
-    same = rw (le-ltb 2 (t .call .kind) h) (done .answer)
+    same = rw h (done .answer)
 
     left : after ≡ flatAfter gap t
     unfolding flatAfter
-    left = rw (le-ltb 2 (t .call .kind) h) (done .slices)
+    left = rw h (done .slices)
 
     answer : r ≡ flatNumbers gap t .answer
     answer = e ∙ ap (λ (x : ExpansionNumbers). x .answer) same

@@ -1,5 +1,6 @@
 -- The ways out of the flat register step, by what the code has tested. Assumes nothing.
 use mathlib.Core.Path.{_≡_, sym, _∙_}
+use mathlib.Core.Bool.{true, false}
 use mathlib.Core.List.{List}
 use Prim.Native.Nat.{ℕ, _-_, _^_, _≤_, _<_}
 use native.Mathlib.Omega.{arith}
@@ -8,20 +9,20 @@ use Rattle.answer.specs.Numbers.{refused}
 use Rattle.answer.specs.declared.Answer.{Answer}
 use Rattle.answer.proofs.Parts.{number-same}
 use Rattle.lists.specs.Lists.{at}
-use Rattle.call.specs.Calls.{Call, kindOf}
+use Rattle.call.specs.Calls.{Call, noKind, kindOf}
 use Rattle.call.specs.declared.Functionality.{Functionality}
 use Rattle.registers.specs.Step.{registerStep, stepNumbers}
 use Rattle.registers.specs.declared.RegisterState.{RegisterState}
 use Rattle.exports.specs.FlatRegisters.{STATE-INDEX, stateOf, stateNumbers, flatStep, flatAnswer, FlatStepped}
 
 module _ (c : Call) (l records : List ℕ) where
-  pub kind-refused : 2 < c .kind → flatAnswer c l ≡ refused 10 0
+  pub kind-refused : noKind (c .kind) ≡ true → flatAnswer c l ≡ refused 10 0
   unfolding flatAnswer
-  kind-refused h = rw (lt-ltb 2 (c .kind) h)
+  kind-refused h = rw h
 
-  pub index-refused : c .kind ≤ 2 → 2 ^ 32 - 1 < at l STATE-INDEX → flatAnswer c l ≡ refused 10 0
+  pub index-refused : noKind (c .kind) ≡ false → 2 ^ 32 - 1 < at l STATE-INDEX → flatAnswer c l ≡ refused 10 0
   unfolding flatAnswer
-  index-refused h g = rw (le-ltb 2 (c .kind) h, lt-ltb (2 ^ 32 - 1) (at l STATE-INDEX) g)
+  index-refused h g = rw (h, lt-ltb (2 ^ 32 - 1) (at l STATE-INDEX) g)
 
   -- the step of a kind and a state that the numbers stand for, and its answer
   pub same-step : (k : Functionality) (s : RegisterState) → k ≡ kindOf (c .kind) → s ≡ stateOf l
@@ -29,9 +30,9 @@ module _ (c : Call) (l records : List ℕ) where
   unfolding flatStep
   same-step k s e f = λ i. registerStep (e i) (c .stamp) (c .src) (c .dst) (c .count) (f i)
 
-  pub same-answer : c .kind ≤ 2 → at l STATE-INDEX ≤ 2 ^ 32 - 1 → stepNumbers (flatStep c l .answer) ≡ flatAnswer c l
+  pub same-answer : noKind (c .kind) ≡ false → at l STATE-INDEX ≤ 2 ^ 32 - 1 → stepNumbers (flatStep c l .answer) ≡ flatAnswer c l
   unfolding flatAnswer
-  same-answer h g = rw (le-ltb 2 (c .kind) h, le-ltb (2 ^ 32 - 1) (at l STATE-INDEX) g)
+  same-answer h g = rw (h, le-ltb (2 ^ 32 - 1) (at l STATE-INDEX) g)
 
   -- an answer, and both arrays as they were
   pub step-refused : (r : Answer) → r ≡ flatAnswer c l → (r .number ≡ 0 → ⊥) → FlatStepped c l records r l records

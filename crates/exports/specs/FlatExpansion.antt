@@ -2,25 +2,22 @@
 -- writes nothing, counts included. Assumes nothing.
 use mathlib.Core.Path.{_≡_}
 use Prim.Native.Nat.{ℕ}
-use mathlib.Core.Bool.{Bool, cond}
+use mathlib.Core.Bool.{cond}
 use mathlib.Core.List.{List, [], _∷_}
-use lib.Dec.{eqb, ltb}
+use lib.Dec.{eqb}
 use Rattle.answer.specs.declared.Answer.{Answer}
+use Rattle.call.specs.Calls.{noKind}
 use Rattle.expansion.specs.Tries.{under, Lent, Try}
 use Rattle.expansion.specs.Refusals.{answered, ExpansionNumbers, withAccesses, refusedWith}
 use Rattle.expansion.specs.Expansion.{lentAfter}
 
--- no kind has this number
-abbrev pub noKind : Try → Bool
-noKind t = ltb 2 (t .call .kind)
-
 -- the answer and the number of accesses
 unfoldable pub flatNumbers : ℕ → Try → ExpansionNumbers
-flatNumbers gap t = cond (noKind t) (refusedWith 10) (withAccesses (t .call) (answered (under gap) t))
+flatNumbers gap t = cond (noKind (t .call .kind)) (refusedWith 10) (withAccesses (t .call) (answered (under gap) t))
 
 -- the four slices afterwards
 unfoldable pub flatAfter : ℕ → Try → Lent
-flatAfter gap t = cond (noKind t) (t .slices) (lentAfter (under gap) t)
+flatAfter gap t = cond (noKind (t .call .kind)) (t .slices) (lentAfter (under gap) t)
 
 -- the two counts afterwards: operation and access records
 abbrev pub expansionCounts : ExpansionNumbers → List ℕ → List ℕ

@@ -9,7 +9,7 @@ use lib.ListN.{take, drop}
 use Rattle.answer.specs.Numbers.{refused}
 use Rattle.answer.specs.declared.Answer.{Answer}
 use Rattle.lists.specs.Lists.{at}
-use Rattle.call.specs.Calls.{Call, kindOf}
+use Rattle.call.specs.Calls.{Call, noKind, kindOf}
 use Rattle.registers.specs.Step.{registerStep, stepNumbers}
 use Rattle.registers.specs.declared.RegisterState.{RegisterState}
 use Rattle.registers.specs.declared.RegisterStep.{RegisterStep}
@@ -40,7 +40,7 @@ flatStep c l = registerStep (kindOf (c .kind)) (c .stamp) (c .src) (c .dst) (c .
 
 -- its answer, behind 10 for a kind above 2 or an index of 2^32 or more
 unfoldable pub flatAnswer : Call → List ℕ → Answer
-flatAnswer c l = cond (ltb 2 (c .kind) || ltb (2 ^ 32 - 1) (at l STATE-INDEX)) (refused 10 0) (stepNumbers (flatStep c l .answer))
+flatAnswer c l = cond (noKind (c .kind) || ltb (2 ^ 32 - 1) (at l STATE-INDEX)) (refused 10 0) (stepNumbers (flatStep c l .answer))
 
 -- what the function has to show: its answer, and the state's numbers and the four records when it is done; a refusal writes nothing
 pub record FlatStepped (c : Call) (state records : List ℕ) (r : Answer) (stateLater recordsLater : List ℕ) : Type 0 where

@@ -2,6 +2,7 @@
 use answer::Answer;
 use answer::refuse;
 use call::kind_of;
+use call::no_kind;
 use expansion::ExpansionAnswer;
 ghost use mathlib.Core.Path.{_≡_};
 ghost use Rattle.expansion.specs.Refusals.{expansionNumbers};
@@ -27,7 +28,7 @@ pub extern "C" fn collect_copy_ops(
         (lent (now (bytes .entry)) (now (stamps .entry)) (now (ops .entry)) (now (accesses .entry)))) (now (counts .entry)) r
         (lent (now (bytes .exit)) (now (stamps .exit)) (now (ops .exit)) (now (accesses .exit))) (now (counts .exit)) ⌝ }
 {
-    if 2 < kind {
+    if no_kind(kind) {
         return refuse(10, 0);
     }
     let found = expansion::collect_copy_ops(

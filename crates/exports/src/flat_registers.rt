@@ -4,6 +4,7 @@ use answer::Answer;
 use answer::accept;
 use answer::refuse;
 use call::kind_of;
+use call::no_kind;
 use lists::slices::put;
 use lists::slices::put_at;
 use registers::RegisterState;
@@ -45,7 +46,7 @@ pub extern "C" fn collect_copy_register_ops(
         (now (state .entry)) (now (records .entry)) r (now (state .exit)) (now (records .exit)) ⌝ }
 {
     let flat = *state;
-    if 2 < kind {
+    if no_kind(kind) {
         return refuse(10, 0);
     }
     if 4294967295 < flat[64] {

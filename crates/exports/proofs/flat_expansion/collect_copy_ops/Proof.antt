@@ -1,9 +1,11 @@
 -- `exports::flat_expansion::collect_copy_ops` meets its contract: each way out is a case of the definition. Assumes nothing.
-use mathlib.Core.Path.{_≡_, ap, subst, _∙_}
+use mathlib.Core.Path.{_≡_, sym, ap, subst, _∙_}
+use mathlib.Core.Bool.{false}
 use Prim.Native.Nat.{ℕ}
 use denote.Ref.{now}
 use borrow.Author.Needs.{needs}
-use Rattle.call.specs.Calls.{kindNumber}
+use borrow.Author.Tests.{ltb-false}
+use Rattle.call.specs.Calls.{kindNumber, noKind}
 use Rattle.call.proofs.GoodCalls.{kind-back}
 use Rattle.expansion.specs.Tries.{under, Lent, lent, Try, tryOf}
 use Rattle.expansion.specs.Refusals.{ExpansionNumbers, expansionNumbers}
@@ -45,14 +47,17 @@ module _ (c : tie.After-numbers) where
   called = called-of (back-of c)
 
   abbrev entry : tie.Start
-  entry = start-of (called .before .before)
+  entry = start-of (called .before .before .before)
 
   abbrev found : ExpansionNumbers
   found = expansionNumbers (back-of c .collect-copy-ops .result)
 
+  is-kind : noKind (entry .args .kind) ≡ false
+  is-kind = let tested = called .before in sym (tested .before .no-kind .ensures) ∙ tested .if1 .left
+
   -- the kind that was handed on has the number that came in
   back : kindNumber (called .kind-of .result) ≡ entry .args .kind
-  back = ap kindNumber (called .kind-of .ensures) ∙ kind-back (entry .args .kind) (called .before .if1 .left)
+  back = ap kindNumber (called .kind-of .ensures) ∙ kind-back (entry .args .kind) (ltb-false 2 (entry .args .kind) is-kind)
 
   done-as : (after : Lent) → Done (under (entry .args .gap)) (with-kind entry (kindNumber (called .kind-of .result))) found after
       → Done (under (entry .args .gap)) (handed entry) found after
@@ -62,21 +67,20 @@ pub collect-copy-ops-spec : {M : Type 1} → statement M
 collect-copy-ops-spec =
     tie.close
     (tie.spec
-    (λ c κs. search needs)
-    (λ c. let e = start-of (c .before .before) in ten (e .args .gap) (handed e) (now (e .args .counts)) (c .before .if1 .taken) _ (c .refuse .ensures))
+    (λ c κs. search needs) (λ c κs. search needs)
+    (λ c. let e = start-of (c .before .before .before) in ten (e .args .gap) (handed e) (now (e .args .counts))
+    (sym (c .before .before .no-kind .ensures) ∙ c .before .if1 .taken) _ (c .refuse .ensures))
     (λ c κs. search needs) (λ c κs. search needs) (λ c κs. search needs) (λ c. search needs) (λ c. search needs)
     (λ c. search needs) (λ c. search needs)
     (λ c.
     let n = c .before .before in let e = entry n in
     let done = done-as n _ (back-of n .collect-copy-ops .ensures) in
-    let small = called n .before .if1 .left in
-    refused-flat (e .args .gap) (handed e) (now (e .args .counts)) small (found n) _ done _ (n .numbers .ensures) (c .if2 .taken))
+    refused-flat (e .args .gap) (handed e) (now (e .args .counts)) (is-kind n) (found n) _ done _ (n .numbers .ensures) (c .if2 .taken))
     (λ c κs. search needs) (λ c. search needs) (λ c. search needs) (λ c. search needs) (λ c. search needs)
     (λ c.
     let told = c .before .before in
     let n = told .before .before in
     let e = entry n in
     let done = done-as n _ (back-of n .collect-copy-ops .ensures) in
-    let small = called n .before .if1 .left in
-    taken-flat (e .args .gap) (handed e) (now (e .args .counts)) small (found n) _ done _ (n .numbers .ensures) (told .if2 .left)
+    taken-flat (e .args .gap) (handed e) (now (e .args .counts)) (is-kind n) (found n) _ done _ (n .numbers .ensures) (told .if2 .left)
     _ (c .before .access-count .ensures)))

@@ -1,6 +1,6 @@
 -- `exports::flat_registers::collect_copy_register_ops` meets its contract: each way out is a case of the definition, and the step that is
 -- called is the definition's. Assumes nothing.
-use mathlib.Core.Path.{_≡_, ap, _∙_}
+use mathlib.Core.Path.{_≡_, sym, ap, _∙_}
 use borrow.Author.Needs.{needs}
 use denote.Ref.{now}
 use Rattle.call.specs.Calls.{Call}
@@ -20,7 +20,9 @@ abbrev past-index : tie.After-kind-of → tie.Else2
 past-index c = c .before
 
 abbrev start-of : tie.After-kind-of → tie.Start
-start-of c = past-index c .before .before .before
+start-of c =
+    let tested = past-index c .before in
+    tested .before .before .before
 
 module _ (c : tie.After-collect-copy-register-ops) where
   abbrev kind-at : tie.After-kind-of
@@ -43,21 +45,24 @@ answer-at c =
     c .numbers .ensures
     ∙ found .collect-copy-register-ops .ensures .0
     ∙ ap (λ (x : RegisterStep). stepNumbers (x .answer)) (step found)
-    ∙ same-answer (call s) (now (s .args .state)) (now (s .args .records)) (tests .before .if1 .left) (tests .if2 .left)
+    ∙ same-answer (call s) (now (s .args .state)) (now (s .args .records))
+    (sym (tests .before .before .no-kind .ensures) ∙ tests .before .if1 .left) (tests .if2 .left)
 
 returns : tie.Need-returns
 returns c =
-    let s = c .before .before .before in
+    let tested = c .before .before in
+    let s = tested .before .before in
     let l = now (s .args .state) in
-    ten (call s) l (now (s .args .records)) _ (c .refuse .ensures) (kind-refused (call s) l (now (s .args .records)) (c .before .if1 .taken))
+    ten (call s) l (now (s .args .records)) _ (c .refuse .ensures) (kind-refused (call s) l (now (s .args .records)) (sym (tested .no-kind .ensures) ∙ c .before .if1 .taken))
 
 returns-2 : tie.Need-returns-2
 returns-2 c =
     let missed = c .before .before in
-    let s = missed .before .before in
+    let tested = missed .before in
+    let s = tested .before .before in
     let l = now (s .args .state) in
     let records = now (s .args .records) in
-    ten (call s) l records _ (c .refuse2 .ensures) (index-refused (call s) l records (missed .if1 .left) (c .before .if2 .taken))
+    ten (call s) l records _ (c .refuse2 .ensures) (index-refused (call s) l records (sym (tested .no-kind .ensures) ∙ missed .if1 .left) (c .before .if2 .taken))
 
 returns-3 : tie.Need-returns-3
 returns-3 c =
@@ -80,7 +85,7 @@ pub collect-copy-register-ops-spec : {M : Type 1} → statement M
 collect-copy-register-ops-spec =
     tie.close
     (tie.spec
-    (λ c κs. search needs)
+    (λ c κs. search needs) (λ c κs. search needs)
     returns
     (λ c. search needs) (λ c κs. search needs)
     returns-2
