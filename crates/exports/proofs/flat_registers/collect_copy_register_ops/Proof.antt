@@ -53,7 +53,9 @@ returns c =
     let tested = c .before .before in
     let s = tested .before .before in
     let l = now (s .args .state) in
-    ten (call s) l (now (s .args .records)) _ (c .refuse .ensures) (kind-refused (call s) l (now (s .args .records)) (sym (tested .no-kind .ensures) ∙ c .before .if1 .taken))
+    let records = now (s .args .records) in
+    let none = sym (tested .no-kind .ensures) ∙ c .before .if1 .taken in
+    ten (call s) l records _ (c .refuse .ensures) (kind-refused (call s) l records none)
 
 returns-2 : tie.Need-returns-2
 returns-2 c =
@@ -62,7 +64,8 @@ returns-2 c =
     let s = tested .before .before in
     let l = now (s .args .state) in
     let records = now (s .args .records) in
-    ten (call s) l records _ (c .refuse2 .ensures) (index-refused (call s) l records (sym (tested .no-kind .ensures) ∙ missed .if1 .left) (c .before .if2 .taken))
+    let some = sym (tested .no-kind .ensures) ∙ missed .if1 .left in
+    ten (call s) l records _ (c .refuse2 .ensures) (index-refused (call s) l records some (c .before .if2 .taken))
 
 returns-3 : tie.Need-returns-3
 returns-3 c =
