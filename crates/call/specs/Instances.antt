@@ -1,7 +1,8 @@
--- Small calls and cuts, computed over the definitions: sound ones, one that breaks each condition, and the rows of a cut. Assumes nothing.
+-- Small calls and cuts, computed over the definitions: sound ones, one that breaks each condition, and the rows of a cut.
+-- `call_instances_hold` in theorems carries them. Assumes nothing.
 use mathlib.Core.Path.{_≡_}
 use mathlib.Core.List.{[], _∷_}
-use Prim.Native.Nat.{ℕ}
+use Prim.Native.Nat.{ℕ, _-_, _^_}
 use lib.ListN.{replicate}
 use Rattle.call.specs.Calls.{Call, Piece, Op}
 use Rattle.call.specs.Cuts.{cutFrom, Cut, Sound}
@@ -32,6 +33,6 @@ pub record Instances : Type 0 where
   pub set-apart : Sound 8 (callOn 1 100 108 0)
   pub set-near : Sound 8 (callOn 1 100 107 0) → ⊥
   -- a source that ends at the last of 64 bits, one that ends past it, and one of no byte there
-  pub to-top : Sound 8 (callOn 0 18446744073709551607 0 8)
-  pub past-top : Sound 8 (callOn 0 18446744073709551608 0 8) → ⊥
-  pub empty-top : Sound 8 (callOn 0 18446744073709551615 0 0)
+  pub to-top : Sound 8 (callOn 0 (2 ^ 64 - 9) 0 8)
+  pub past-top : Sound 8 (callOn 0 (2 ^ 64 - 8) 0 8) → ⊥
+  pub empty-top : Sound 8 (callOn 0 (2 ^ 64 - 1) 0 0)

@@ -1,5 +1,5 @@
 -- The chain of operation records: what each must be after the one before it. A chain is exactly the operation records of sound cut
--- calls, and these are read back from it. No row and no residue stands here. Assumes nothing.
+-- calls, and these are read back from it: `chain_is_whole_calls_holds` in theorems. No row and no residue stands here. Assumes nothing.
 use mathlib.Core.Path.{_≡_}
 use mathlib.Core.Logic.{_↔_}
 use mathlib.Core.Option.{Option, none, some}

@@ -1,4 +1,4 @@
--- Inputs with their outputs, computed over the definition. The theorem that they hold is in proofs/. Assumes nothing.
+-- Inputs with their outputs, computed over the definition. `output_laws_hold` carries them. Assumes nothing.
 use mathlib.Core.Path.{_≡_}
 use mathlib.Core.List.{List, _++_}
 use mathlib.Core.List as list

@@ -1,5 +1,5 @@
 -- The starred examples on routes, computed over the definitions: "Stamps 65,537 over 1: register; 65,538 over 1, equal stamps, or 2^32
--- over 2^32 − 1: aligned (even address)." proofs/ shows them. Assumes nothing.
+-- over 2^32 − 1: aligned (even address)." `starred_examples_hold` in examples carries them. Assumes nothing.
 use mathlib.Core.Path.{_≡_}
 use mathlib.Core.List.{[], _∷_}
 use Prim.Native.Nat.{ℕ, _-_, _^_}

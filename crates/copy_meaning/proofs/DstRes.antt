@@ -12,6 +12,7 @@ use lib.Dec.{lit<, lit≤, eqb}
 use lib.ListN.{length, getD, set, length-set}
 use lib.Seq.{getD-set-same, getD-set-other}
 use Rattle.lists.specs.Lists.{at}
+use Rattle.words.specs.Words.{number}
 use Rattle.field.specs.Field.{addP, subP, bitP}
 use Rattle.field.specs.Carries.{carryLow}
 use Rattle.field.proofs.Laws.{add-below, sub-below, bit-below, bit-zero, sub-zero, sub-same, addP-small, subP-zero}
@@ -196,10 +197,10 @@ same-op row other b =
       call =
           record {
             kind = b IS-SET (inr (lit≤ tt)) i + 2 * b IS-WRITE (inr (lit≤ tt)) i;
-            stamp = b TIMESTAMP (inl (lit< tt)) i + 2 ^ 32 * b (TIMESTAMP + 1) (inl (lit< tt)) i;
-            src = b SRC (inl (lit< tt)) i + 2 ^ 32 * b (SRC + 1) (inl (lit< tt)) i;
-            dst = b DST (inl (lit< tt)) i + 2 ^ 32 * b (DST + 1) (inl (lit< tt)) i;
-            count = b COUNT (inl (lit< tt)) i + 2 ^ 32 * b (COUNT + 1) (inl (lit< tt)) i;
+            stamp = number 32 (b TIMESTAMP (inl (lit< tt)) i ∷ b (TIMESTAMP + 1) (inl (lit< tt)) i ∷ []);
+            src = number 32 (b SRC (inl (lit< tt)) i ∷ b (SRC + 1) (inl (lit< tt)) i ∷ []);
+            dst = number 32 (b DST (inl (lit< tt)) i ∷ b (DST + 1) (inl (lit< tt)) i ∷ []);
+            count = number 32 (b COUNT (inl (lit< tt)) i ∷ b (COUNT + 1) (inl (lit< tt)) i ∷ []);
           };
       piece =
           record {

@@ -1,25 +1,19 @@
 -- What is read off the row of a record is that record, and what the row hands on is what the record's wrapped sums say. So a row tells
 -- its record, and no other record has it. Assumes nothing.
-use mathlib.Core.Path.{_≡_, refl, sym, _∙_}
-use mathlib.Core.List.{[], _∷_}
+use mathlib.Core.Path.{_≡_, refl}
 use mathlib.Core.Logic.{_⊎_, inl, inr}
 use Prim.Native.Nat.{ℕ, zero, suc, _+_, _-_, _*_, _%_, _^_, _≤_, _<_}
 use native.Mathlib.Omega.{arith}
 use lib.Dec.{eqb}
 use Rattle.lists.specs.Lists.{at, eightAt}
 use Rattle.lists.proofs.Numbers.{eight-back}
-use Rattle.words.specs.Words.{number, bit}
-use Rattle.words.proofs.Digits.{halves-whole, number-digits}
-use Rattle.words.proofs.Wrap.{from-words}
+use Rattle.words.specs.Words.{bit}
+use Rattle.words.proofs.Digits.{number-digits, number-whole}
 use Rattle.call.specs.Calls.{Op}
 use Rattle.call.specs.Cuts.{Words, PieceOk}
 use Rattle.copy_row.specs.Columns.{TIMESTAMP, VALUE, SRC, SRC-INCR, DST, DST-INCR, COUNT, COUNT-DECR, DST-RES, FIRST, END, MU}
 use Rattle.copy_row.specs.Rows.{wrapped, dstRes, rowOf}
 use Rattle.copy_meaning.specs.ReadRow.{wordsAt, halvesAt, widthAt, kindAt, callAt, opAt, nextAt}
-
--- four halves in the form in which they are read
-regroup : (a b c d x : ℕ) → a + 2 ^ 16 * (b + 2 ^ 16 * (c + 2 ^ 16 * (d + 2 ^ 16 * 0))) ≡ x → a + 2 ^ 16 * b + 2 ^ 32 * c + 2 ^ 48 * d ≡ x
-regroup a b c d x e = omega arith
 
 kind-back : (k : ℕ) → k ≤ 2 → bit (eqb k 1) + 2 * bit (eqb k 2) ≡ k
 kind-back zero h = refl
@@ -30,9 +24,6 @@ kind-back (suc (suc (suc k))) h = absurd (omega arith)
 width-back : (w : ℕ) → (w ≡ 1) ⊎ (w ≡ 8) → 8 - 7 * bit (eqb w 1) ≡ w
 width-back w (inl e) = rw e
 width-back w (inr e) = rw e
-
-two-words : (a b : ℕ) → a + 2 ^ 32 * b ≡ number 32 (a ∷ b ∷ [])
-two-words a b = omega arith
 
 module _ (mu : ℕ) (o : Op) where
   -- MU and the marks stand in the row as they are
@@ -51,39 +42,39 @@ module _ (mu : ℕ) (o : Op) where
   -- columns of words and of halves
   pub src-modulo : wordsAt (rowOf mu o) SRC ≡ o .call .src % 2 ^ 64
   unfolding rowOf
-  src-modulo = two-words _ _ ∙ number-digits 32 2 (o .call .src)
+  src-modulo = number-digits 32 2 (o .call .src)
 
   pub stamp-back : o .call .stamp < 2 ^ 64 → wordsAt (rowOf mu o) TIMESTAMP ≡ o .call .stamp
   unfolding rowOf
-  stamp-back h = sym (from-words (o .call .stamp) h)
+  stamp-back h = number-whole 32 2 (o .call .stamp) h
 
   pub src-back : o .call .src < 2 ^ 64 → wordsAt (rowOf mu o) SRC ≡ o .call .src
   unfolding rowOf
-  src-back h = sym (from-words (o .call .src) h)
+  src-back h = number-whole 32 2 (o .call .src) h
 
   pub dst-back : o .call .dst < 2 ^ 64 → wordsAt (rowOf mu o) DST ≡ o .call .dst
   unfolding rowOf
-  dst-back h = sym (from-words (o .call .dst) h)
+  dst-back h = number-whole 32 2 (o .call .dst) h
 
   pub count-back : o .call .count < 2 ^ 64 → wordsAt (rowOf mu o) COUNT ≡ o .call .count
   unfolding rowOf
-  count-back h = sym (from-words (o .call .count) h)
+  count-back h = number-whole 32 2 (o .call .count) h
 
   pub src-incr-back : halvesAt (rowOf mu o) SRC-INCR ≡ wrapped o .src
   unfolding rowOf
-  src-incr-back = regroup _ _ _ _ _ (halves-whole (wrapped o .src) (omega arith))
+  src-incr-back = number-whole 16 4 (wrapped o .src) (omega arith)
 
   pub dst-incr-back : halvesAt (rowOf mu o) DST-INCR ≡ wrapped o .dst
   unfolding rowOf
-  dst-incr-back = regroup _ _ _ _ _ (halves-whole (wrapped o .dst) (omega arith))
+  dst-incr-back = number-whole 16 4 (wrapped o .dst) (omega arith)
 
   pub count-decr-back : halvesAt (rowOf mu o) COUNT-DECR ≡ wrapped o .count
   unfolding rowOf
-  count-decr-back = regroup _ _ _ _ _ (halves-whole (wrapped o .count) (omega arith))
+  count-decr-back = number-whole 16 4 (wrapped o .count) (omega arith)
 
   pub dst-res-back : dstRes (o .call) < 2 ^ 64 → halvesAt (rowOf mu o) DST-RES ≡ dstRes (o .call)
   unfolding rowOf
-  dst-res-back h = regroup _ _ _ _ _ (halves-whole (dstRes (o .call)) h)
+  dst-res-back h = number-whole 16 4 (dstRes (o .call)) h
 
   module _ (fits : Words (o .call)) where
     pub kind-read : kindAt (rowOf mu o) ≡ o .call .kind

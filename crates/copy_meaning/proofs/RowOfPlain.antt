@@ -1,6 +1,6 @@
 -- A row in range that says what Plain says is the row of the record read off it, and that record meets the conditions of its step, live
 -- or dead. Column by column: words and halves of a number come back from it, and each flag is its test. Assumes nothing.
-use mathlib.Core.Path.{_≡_, refl, ap, _∙_}
+use mathlib.Core.Path.{_≡_, refl, sym, ap, _∙_}
 use mathlib.Core.Bool.{_&&_}
 use mathlib.Core.List.{List, [], _∷_, _++_}
 use mathlib.Core.Logic.{_⊎_, inl, inr}
@@ -10,8 +10,7 @@ use lib.Dec.{lit<, eqb}
 use lib.ListN.{length}
 use Rattle.lists.specs.Lists.{at, eightAt}
 use Rattle.words.specs.Words.{words, halves, wrapSub, bit}
-use Rattle.words.proofs.Limbs.{two-of, four-of}
-use Rattle.words.proofs.Digits.{words-two, halves-four}
+use Rattle.words.proofs.Digits.{digits-number}
 use Rattle.call.specs.Cuts.{Words, PieceOk}
 use Rattle.copy_row.specs.Columns.{TIMESTAMP, VALUE, SRC, SRC-INCR, DST, DST-INCR, COUNT, COUNT-DECR, DST-RES, FIRST, END, SINGLE, IS-SET, IS-WRITE}
 use Rattle.copy_row.specs.Columns.{MU, MU-COM, MU-COM-WIDE, COLUMNS}
@@ -28,14 +27,13 @@ use Rattle.copy_meaning.proofs.StepFacts.{StepFacts, step-of-facts}
 
 -- the columns of a number are its words, its halves
 word-columns : (row : List ℕ) (c : ℕ) → TwoWords row c → at row c ∷ at row (c + 1) ∷ [] ≡ words (wordsAt row c)
-word-columns row c w =
-    words-two (wordsAt row c) (at row c) (at row (c + 1)) (two-of (2 ^ 32) (wordsAt row c) (at row c) (at row (c + 1)) (w .low) (w .high) refl)
+word-columns row c w = sym (digits-number 32 (at row c ∷ at row (c + 1) ∷ []) (w .low, (w .high, tt)))
 
 half-columns : (row : List ℕ) (c x : ℕ) → FourHalves row c → halvesAt row c ≡ x
     → at row c ∷ at row (c + 1) ∷ at row (c + 2) ∷ at row (c + 3) ∷ [] ≡ halves x
 half-columns row c x h e =
-    halves-four x (at row c) (at row (c + 1)) (at row (c + 2)) (at row (c + 3))
-    (four-of (2 ^ 16) x (at row c) (at row (c + 1)) (at row (c + 2)) (at row (c + 3)) (h .first) (h .second) (h .third) (h .fourth) (omega arith))
+    let columns = at row c ∷ at row (c + 1) ∷ at row (c + 2) ∷ at row (c + 3) ∷ [] in
+    sym (digits-number 16 columns (h .first, (h .second, (h .third, (h .fourth, tt))))) ∙ ap halves e
 
 width-cases : (s : ℕ) → s < 2 → (8 - 7 * s ≡ 1) ⊎ (8 - 7 * s ≡ 8)
 width-cases zero h = inr refl

@@ -1,7 +1,8 @@
 -- The numbers and the operation record that are read off a copy row, and the call that the row after it must go on with. Assumes nothing.
 use Prim.Native.Nat.{ℕ, _+_, _-_, _*_, _^_, _<_}
-use mathlib.Core.List.{List}
+use mathlib.Core.List.{List, [], _∷_}
 use Rattle.lists.specs.Lists.{at, eightAt}
+use Rattle.words.specs.Words.{number}
 use Rattle.call.specs.Calls.{Call, Op}
 use Rattle.copy_row.specs.Columns.{TIMESTAMP, VALUE, SRC, SRC-INCR, DST, DST-INCR, COUNT, COUNT-DECR, FIRST, END, SINGLE, IS-SET, IS-WRITE}
 
@@ -18,11 +19,11 @@ pub record FourHalves (row : List ℕ) (c : ℕ) : Type 0 where
 
 -- the number in the two words from column c on
 abbrev pub wordsAt : List ℕ → ℕ → ℕ
-wordsAt row c = at row c + 2 ^ 32 * at row (c + 1)
+wordsAt row c = number 32 (at row c ∷ at row (c + 1) ∷ [])
 
 -- the number in the four halves from column c on
 abbrev pub halvesAt : List ℕ → ℕ → ℕ
-halvesAt row c = at row c + 2 ^ 16 * at row (c + 1) + 2 ^ 32 * at row (c + 2) + 2 ^ 48 * at row (c + 3)
+halvesAt row c = number 16 (at row c ∷ at row (c + 1) ∷ at row (c + 2) ∷ at row (c + 3) ∷ [])
 
 -- the row's width
 abbrev pub widthAt : List ℕ → ℕ

@@ -2,7 +2,6 @@ pub mod Missed
 pub mod ZeroResidues
 pub mod RowFaults
 pub mod ResidueAnswers
-pub mod Examples
 pub mod Gate
 pub mod CountBorrow
 pub mod Computing

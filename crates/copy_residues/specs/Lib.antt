@@ -3,4 +3,3 @@ pub mod Residues
 pub mod Cells
 pub mod RowCheck
 pub mod Answers
-pub mod Examples

@@ -23,6 +23,6 @@ columnLimits =
     ++ replicate 4 (2 ^ 16)
     ++ replicate 9 p
 
--- the lowest column out of range, or 41
+-- the lowest index of a column out of range, or 41
 unfoldable pub firstOut : List ℕ → ℕ
 firstOut row = first (λ c. leb (getD columnLimits c 0) (at row c)) 0 COLUMNS

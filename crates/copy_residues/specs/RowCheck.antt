@@ -12,7 +12,7 @@ use Rattle.copy_residues.specs.Residues.{residue, RESIDUES}
 use Rattle.copy_residues.specs.declared.RowFault.{RowFault}
 use Rattle.copy_residues.specs.declared.RowFault.the-variants.{Fine, NotElement, OutOfRange, NotZero}
 
--- the lowest residue that is not 0, or 40
+-- the lowest index of a residue that is not 0, or 40
 unfoldable pub firstResidue : ℕ → List ℕ → ℕ
 firstResidue gap row = first (λ i. not (eqb (residue gap row i) 0)) 0 RESIDUES
 

@@ -17,7 +17,8 @@ use Rattle.expansion_rows.specs.Held.{heldAllBytes}
 use Rattle.expansion_rows.proofs.Widths.{widths-cut}
 use Rattle.expansion.specs.Tries.{Setting, lengths, Try}
 use Rattle.expansion.specs.Expansion.{bytesBy, stampsBy}
-use Rattle.expansion.specs.Consequences.{Accepts, InWindow, Outside, movedBytes, placeIn, AnyCut, Consequences}
+use Rattle.expansion.specs.Refusals.{Accepts}
+use Rattle.expansion.specs.Consequences.{InWindow, Outside, movedBytes, placeIn, AnyCut, Consequences}
 use Rattle.expansion.proofs.Judged.{accepted-fair}
 use Rattle.expansion.proofs.Moved.{some-ops}
 use Rattle.expansion.proofs.Cut.{cut, fits, counts}

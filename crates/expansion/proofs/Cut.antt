@@ -23,10 +23,10 @@ use Rattle.expansion_rows.proofs.RowList.{rows-length}
 use Rattle.expansion_rows.proofs.HeldOps.{Eight, row-ops-eight, flat-ops-length}
 use Rattle.expansion_rows.proofs.Lengths.{row-ops-length, held-accesses-length, pass-accesses-length}
 use Rattle.expansion_rows.proofs.RowsCut.{zeros-ok, rows-are-cut}
-use Rattle.expansion.specs.Refusals.{opCount, accessCount}
+use Rattle.expansion.specs.Refusals.{opCount, accessCount, Accepts}
 use Rattle.expansion.specs.Tries.{Setting, Lengths, lengths, Try}
 use Rattle.expansion.specs.Expansion.{opsBy, deferredBy, accessesBy, callOps, callAccesses}
-use Rattle.expansion.specs.Consequences.{callPieces, cutCall, Accepts}
+use Rattle.expansion.specs.Consequences.{callPieces, cutCall}
 use Rattle.expansion.proofs.Judged.{Fair, accepted-fair, source-fits, dest-fits}
 
 -- a call that is cut has bytes to move

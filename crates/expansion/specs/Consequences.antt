@@ -1,5 +1,5 @@
--- What follows from the definition of the expansion. Each field is a fact; proofs/Consequences.antt proves them all. What is said of bytes
--- and stamps holds however the call is cut into widths of 1 and 8, if it lies in the window. Assumes nothing.
+-- What follows from the definition of the expansion. Each field is a fact; `expansion_consequences_hold` in theorems carries them. What is
+-- said of bytes and stamps holds however the call is cut into widths of 1 and 8, if it lies in the window. Assumes nothing.
 use mathlib.Core.Path.{_≡_}
 use mathlib.Core.Logic.{_⊎_}
 use mathlib.Core.Bool.{cond, _&&_}
@@ -13,7 +13,7 @@ use Rattle.call.specs.Calls.{Call, Piece, Op}
 use Rattle.call.specs.Cuts.{Words, CutInto, CutCall, piecesOf, cutFrom, Fits}
 use Rattle.window.specs.Window.{Window, windowOf}
 use Rattle.expansion_rows.specs.Rows.{widthsOf}
-use Rattle.expansion.specs.Refusals.{opCount, accessCount, answered}
+use Rattle.expansion.specs.Refusals.{opCount, accessCount, Accepts}
 use Rattle.expansion.specs.Tries.{Setting, Try}
 use Rattle.expansion.specs.Expansion.{opsBy, bytesBy, stampsBy, callOps, callAccesses}
 
@@ -23,10 +23,6 @@ callPieces c bytes = piecesOf (callOps c bytes)
 
 abbrev pub cutCall : Call → List ℕ → CutCall
 cutCall c bytes = record { call = c; pieces = callPieces c bytes }
-
--- the expansion refuses nothing
-abbrev pub Accepts : Setting → Try → Type 0
-Accepts s t = answered s t .number ≡ 0
 
 -- a call with bytes to move reads and writes inside a window of n cells, and a Set's destination lies a gap above its source
 pub record InWindow (gap : ℕ) (c : Call) (n : ℕ) : Type 0 where

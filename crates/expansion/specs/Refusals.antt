@@ -1,5 +1,6 @@
 -- What the expansion answers. Document 01: "Order: .. expansion 7, 8, 1, 3, 5, 2, 9", "sums are plain, not wrapped". The answer depends
 -- on the call, the gap and the lengths of the four lent slices alone. Assumes nothing.
+use mathlib.Core.Path.{_≡_}
 use Prim.Native.Nat.{ℕ, _+_, _-_, _*_, _^_}
 use mathlib.Core.Bool.{Bool, cond, not, _&&_, _||_}
 use mathlib.Core.List.{List, [], _∷_}
@@ -75,6 +76,10 @@ answerBy s c n = firstOf (refusals s c n) (accepted (opCount c))
 -- the answer to a try
 abbrev pub answered : Setting → Try → Answer
 answered s t = answerBy s (t .call) (lengths (t .slices))
+
+-- document 01: "Accepted means that the expansion refuses nothing"
+abbrev pub Accepts : Setting → Try → Type 0
+Accepts s t = answered s t .number ≡ 0
 
 -- with the number of accesses, 0 where it is refused
 pub record ExpansionNumbers : Type 0 where

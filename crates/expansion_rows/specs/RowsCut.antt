@@ -1,4 +1,5 @@
--- That the rows of a call are a cut of it. Document 01: "It is cut into rows of widths 1 and 8 that sum to count". Assumes nothing.
+-- That the rows of a call are a cut of it. Document 01: "It is cut into rows of widths 1 and 8 that sum to count".
+-- `rows_are_cut_holds` in theorems carries it. Assumes nothing.
 use mathlib.Core.Path.{_≡_}
 use mathlib.Core.List.{List}
 use Prim.Native.Nat.{ℕ, _<_}

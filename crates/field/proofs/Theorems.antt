@@ -1,5 +1,5 @@
 -- The field's theorems, as specs/Theorems states them. Assumes nothing.
-use mathlib.Core.Path.{_≡_}
+use mathlib.Core.Path.{_≡_, refl}
 use mathlib.Core.Logic.{_⊎_, inl, inr}
 use Prim.Native.Nat.{ℕ, zero, suc, _<_}
 use native.Mathlib.Omega.{arith}
@@ -21,6 +21,7 @@ below-two x (inr e) = omega arith
 pub field-theorems : FieldTheorems
 field-theorems =
     record {
+      p-is = refl;
       prime = p-prime;
       no-zero-divisors = no-zero-divisors;
       bit = λ x h. (λ e. zero-or-one x (bit-of-zero x h e), λ o. bit-zero x (below-two x o));

@@ -1,5 +1,6 @@
 -- 2^-32 and the constants of the count's borrow, by the names that copy.rs gives them. The numbers are what its constant functions
--- compute; that each is the product it is named for is `BorrowConstants`, shown in proofs/. Assumes nothing.
+-- compute; that each is the product it is named for is `BorrowConstants`, which `borrow_constants_hold` in theorems carries. Assumes
+-- nothing.
 use mathlib.Core.Path.{_≡_}
 use Prim.Native.Nat.{ℕ, _^_}
 use Rattle.field.specs.Field.{addP, mulP}

@@ -17,7 +17,7 @@ use Rattle.field.specs.declared.rows.RowRefusal.the-variants.{OutsideRow
 use Rattle.field.specs.declared.rows.RowVerdict.{RowVerdict}
 use Rattle.field.specs.declared.rows.RowVerdict.the-variants.{Fine, Refused}
 
--- the index of the lowest number of a list that is no element, or the list's length
+-- the lowest index of a number of a list that is no element, or the list's length
 unfoldable pub firstLarge : List ℕ → ℕ
 firstLarge row = first (λ c. leb p (at row c)) 0 (length row)
 

@@ -1,8 +1,9 @@
 -- What equations between elements say of whole numbers: p is prime, so an equation that is a product holds by one of its factors, and a
--- carry that the equations call a bit is the carry of the plain sum. `FieldTheorems` is proved in proofs/. Assumes nothing.
+-- carry that the equations call a bit is the carry of the plain sum. `field_theorems_hold` in theorems carries `FieldTheorems`. Assumes
+-- nothing.
 use mathlib.Core.Path.{_≡_}
 use mathlib.Core.Logic.{_⊎_, _↔_}
-use Prim.Native.Nat.{ℕ, _+_, _*_, _^_, _<_, _∣_}
+use Prim.Native.Nat.{ℕ, _+_, _-_, _*_, _^_, _<_, _∣_}
 use Rattle.field.specs.Field.{p, mulP, bitP}
 use Rattle.field.specs.Carries.{carryP, carryLow, carryHigh}
 
@@ -20,6 +21,8 @@ abbrev pub fromWords : (low high : ℕ) → ℕ
 fromWords low high = low + 2 ^ 32 * high
 
 pub record FieldTheorems : Type 0 where
+  -- document 01: "p = 2^64 − 2^32 + 1"
+  pub p-is : p ≡ 2 ^ 64 - 2 ^ 32 + 1
   pub prime : Prime p
   -- a product of elements is 0 only if a factor is
   pub no-zero-divisors : (a b : ℕ) → a < p → b < p → mulP a b ≡ 0 → (a ≡ 0) ⊎ (b ≡ 0)

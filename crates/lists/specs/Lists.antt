@@ -76,14 +76,18 @@ placed wanted v j r buffer = cond wanted (store buffer (v * j) r) buffer
 
 -- What a loop looks for
 
--- the lowest of the m numbers from k on that meets the test; k + m where none does
+-- the lowest index of the m from k on that meets the test; k + m where none does
 unfoldable pub first : (ℕ → Bool) → ℕ → ℕ → ℕ
 first test k zero = k
 first test k (suc m) = cond (test k) k (first test (k + 1) m)
 
--- r is the lowest of the m numbers from k on that meets the test, or k + m where none does; proofs/ shows it of `first test k m`
+-- r is the lowest index of the m from k on that meets the test, or k + m where none does
 pub record Lowest (test : ℕ → Bool) (k m r : ℕ) : Type 0 where
   pub least : k ≤ r
   pub most : r ≤ k + m
   pub meets : r < k + m → test r ≡ true
   pub before : (j : ℕ) → k ≤ j → j < r → test j ≡ false
+
+-- `first` finds it: `first_is_lowest_holds` in theorems
+abbrev pub FirstIsLowest : Type 0
+FirstIsLowest = (test : ℕ → Bool) (k m : ℕ) → Lowest test k m (first test k m)

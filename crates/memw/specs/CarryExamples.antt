@@ -1,5 +1,5 @@
 -- The starred examples on CARRY, computed over the general table's row: "Low address 2^32 − 8: no CARRY; 2^32 − 7: only CARRY[6]; 2^32 −
--- 1: all." proofs/ shows them. Assumes nothing.
+-- 1: all." `starred_examples_hold` in examples carries them. Assumes nothing.
 use mathlib.Core.Path.{_≡_}
 use mathlib.Core.List.{List, [], _∷_, _++_}
 use Prim.Native.Nat.{ℕ, _-_, _^_}

@@ -1,4 +1,5 @@
--- The theorem on made rows. Document 01: "Every made row of these three tables zeroes its residues." proofs/ shows it. Assumes nothing.
+-- The theorem on made rows. Document 01: "Every made row of these three tables zeroes its residues."
+-- `made_rows_zero_holds` carries it. Assumes nothing.
 use mathlib.Core.Path.{_≡_}
 use mathlib.Core.List.{List}
 use Prim.Native.Nat.{ℕ, _<_}

@@ -43,34 +43,38 @@ muSum f = addP (f .«mu_read») (f .«mu_write»)
 abbrev pub w2 : Flags → ℕ
 w2 f = addP (addP (f .write2) (f .write4)) (f .write8)
 
--- the eight residues without CARRY, in their order: the sum of the multiplicities is a bit, a row of two bytes or more is an access, both
--- multiplicities are bits, the width flags are bits, and so is their sum
+-- the eight residues without CARRY, in their order; first their number in the aligned table, then in the general one
 abbrev pub flagResidues : Flags → List ℕ
 flagResidues f =
+    -- 0, 0: the sum of the multiplicities is a bit
     bitP (muSum f)
+    -- 1, 1: a row of two bytes or more is an access
     ∷ mulP (w2 f) (subP 1 (muSum f))
+    -- 2, 2 and 3, 3: both multiplicities are bits
     ∷ bitP (f .«mu_read»)
     ∷ bitP (f .«mu_write»)
+    -- 4, 11 to 6, 13: the width flags are bits
     ∷ bitP (f .write2)
     ∷ bitP (f .write4)
     ∷ bitP (f .write8)
+    -- 7, 14: and so is their sum
     ∷ bitP (w2 f)
     ∷ []
 
 unfoldable pub flagResidue : Flags → ℕ → ℕ
 flagResidue f i = getD (flagResidues f) i 0
 
--- the general table: the first four of these, seven CARRY bits, the last four
+-- the general table: 0 to 3 are the first four of these, 4 to 10 the seven CARRY bits, 11 to 14 the last four
 unfoldable pub memwResidue : List ℕ → ℕ → ℕ
 memwResidue row i =
     cond (leb i 3) (flagResidue (memwFlags row) i)
     (cond (leb i 10) (bitP (at row (general.CARRY + (i - 4)))) (flagResidue (memwFlags row) (i - 7)))
 
--- the aligned table
+-- the aligned table: 0 to 7 are these
 unfoldable pub alignedResidue : List ℕ → ℕ → ℕ
 alignedResidue row i = flagResidue (alignedFlags row) i
 
--- the register table, its three in their order
+-- the register table: 0 and 1 are two bits, 2 is s(1 − s), s their sum
 abbrev pub registerResidues : List ℕ → List ℕ
 registerResidues row =
     bitP (at row register.MU-READ)

@@ -23,7 +23,7 @@ recordAt w l k = take w (drop (w * k) l)
 unfoldable pub recordsIn : ℕ → List ℕ → List (List ℕ)
 recordsIn w l = listed (recordAt w l) 0 (recordCount w l)
 
--- the lowest number of r above its limit, or the number of limits
+-- the lowest index at which r is above its limit, or the number of limits
 unfoldable pub firstAbove : List ℕ → List ℕ → ℕ
 firstAbove limits r = first (λ i. not (leb (getD r i 0) (getD limits i 0))) 0 (length limits)
 
@@ -31,6 +31,6 @@ firstAbove limits r = first (λ i. not (leb (getD r i 0) (getD limits i 0))) 0 (
 unfoldable pub within : List ℕ → List ℕ → Bool
 within limits r = eqb (length r) (length limits) && eqb (firstAbove limits r) (length limits)
 
--- the lowest record that is not good, or the record count
+-- the lowest index of a record that is not good, or the record count
 unfoldable pub firstBad : ℕ → (List ℕ → Bool) → List ℕ → ℕ
 firstBad w good l = first (λ k. not (good (recordAt w l k))) 0 (recordCount w l)

@@ -1,6 +1,6 @@
 -- How many rows the table of n records has. Document 01: "Rows number the least power of two that is at least the record count, and
--- at least 4". `rowCount` computes it by doubling; `LeastPower` is document 01's sentence, and proofs/ shows that the two agree for
--- every n up to 2^63. Assumes nothing.
+-- at least 4". `rowCount` computes it by doubling; `LeastPower` is document 01's sentence, and `RowCountIsLeast` says that the two agree.
+-- Assumes nothing.
 use mathlib.Core.Path.{_≡_}
 use Prim.Native.Nat.{ℕ, zero, suc, _*_, _^_, _≤_}
 use mathlib.Core.Bool.{cond}
@@ -21,3 +21,7 @@ pub record LeastPower (n r : ℕ) : Type 0 where
   pub covers : n ≤ r
   pub four : 4 ≤ r
   pub least : (j : ℕ) → n ≤ 2 ^ j → 4 ≤ 2 ^ j → r ≤ 2 ^ j
+
+-- `rowCount` is, for every count up to 2^63: `row_count_is_least_holds` in theorems
+abbrev pub RowCountIsLeast : Type 0
+RowCountIsLeast = (n : ℕ) → n ≤ 2 ^ 63 → LeastPower n (rowCount n)

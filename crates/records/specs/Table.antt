@@ -14,7 +14,7 @@ use Rattle.records.specs.RowCount.{rowCount}
 use Rattle.records.specs.declared.TableAnswer.{TableAnswer}
 use Rattle.records.specs.declared.TableAnswer.the-variants.{Made, TooManyRecords, BadRecord, BufferShort}
 
--- the answer for n records, at most `limit` of them allowed, of which `bad` is the lowest refused one (n where none is), rows of v
+-- the answer for n records, at most `limit` of them allowed, of which `bad` is the lowest index of a refused one (n where none is), rows of v
 -- numbers, and a lent table of `room` numbers
 unfoldable pub tableAnswer : ℕ → ℕ → ℕ → ℕ → ℕ → TableAnswer
 tableAnswer limit v n bad room =

@@ -52,8 +52,13 @@ abbrev pub routeOf : ℕ → ℕ → ℕ → MemwRoute
 routeOf address timestamp oldTimestamp =
     cond (deltaInRange timestamp oldTimestamp) Register (cond (eqb (lowWord address % 2) 0) Aligned General)
 
--- It is that of the record, and it is Register exactly if the stamps are in range. proofs/ shows both.
+-- it is that of the record, and it is Register exactly if the stamps are in range
 pub record RegisterExactly (address : ℕ) (val old : List ℕ) (timestamp oldTimestamp : ℕ) (isRead : Bool) : Type 0 where
   pub same-route : classify (built address val old timestamp oldTimestamp isRead) ≡ routeOf address timestamp oldTimestamp
   pub register-in-range : classify (built address val old timestamp oldTimestamp isRead) ≡ Register → deltaInRange timestamp oldTimestamp ≡ true
   pub in-range-register : deltaInRange timestamp oldTimestamp ≡ true → classify (built address val old timestamp oldTimestamp isRead) ≡ Register
+
+-- whatever the inputs: `route_by_inputs_holds` in theorems
+abbrev pub RouteByInputs : Type 0
+RouteByInputs =
+    (address : ℕ) (val old : List ℕ) (timestamp oldTimestamp : ℕ) (isRead : Bool) → RegisterExactly address val old timestamp oldTimestamp isRead

@@ -24,7 +24,7 @@ use Rattle.operands.specs.declared.PairAnswer.the-variants.{Residues}
 use Rattle.operands.proofs.Pairs.{carry-lo, carry-hi}
 use Rattle.operands.proofs.Answers.{pair-accepted, carry-accepted}
 use Rattle.operands.proofs.Constructors.{dword-low, dword-high, constant-low, constant-high}
-use Rattle.residue_pairs.specs.CopyOperands.{Statement, Emitted, Gated, stepOperand}
+use Rattle.residue_pairs.specs.CopyOperands.{ResiduesArePairs, Emitted, Gated, stepOperand}
 use Rattle.residue_pairs.proofs.Values.{step-low, step-high, word-low, word-high}
 
 -- A pair and a carry from the carries at hand
@@ -98,7 +98,7 @@ module _ (row : List ℕ) where
 
 -- The residues
 
-pub residues-are-pairs : Statement
+pub residues-are-pairs : ResiduesArePairs
 unfolding residue noWrap gapNoWrap gatedBit operandsInRow kindInRow sumInRow termInRow every conditionsInRow dword linear constant
     fromDwordHl cells stepOperand
 residues-are-pairs gap h row e =

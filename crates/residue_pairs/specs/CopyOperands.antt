@@ -31,7 +31,8 @@ pub record Gated (gap : ℕ) (row : List ℕ) (i gate : ℕ) (lhs rhs sum : AddO
   pub answer : carryAnswer lhs rhs sum row ≡ Carry carry
   pub product : residue gap row i ≡ mulP gate carry
 
-pub record ResiduesArePairs (gap : ℕ) (row : List ℕ) : Type 0 where
+-- all of them on one row
+pub record RowPairs (gap : ℕ) (row : List ℕ) : Type 0 where
   pub src-incr : Emitted gap row 10 [] (dword SRC) stepOperand (fromDwordHl SRC-INCR)
   pub dst-incr : Emitted gap row 12 [] (dword DST) stepOperand (fromDwordHl DST-INCR)
   pub count-borrows : Emitted gap row 14 [] (fromDwordHl COUNT-DECR) stepOperand (dword COUNT)
@@ -42,6 +43,6 @@ pub record ResiduesArePairs (gap : ℕ) (row : List ℕ) : Type 0 where
   pub gap-no-wrap : Gated gap row 39 (at row IS-SET) (dword SRC) (constant (pos gap)) (dword DST)
   pub count-borrow : carryAnswer (fromDwordHl COUNT-DECR) stepOperand (dword COUNT) row ≡ Carry (borrow row)
 
--- on every row of 41 elements, under every gap of 32 bits
-abbrev pub Statement : Type 0
-Statement = (gap : ℕ) → gap < 2 ^ 32 → (row : List ℕ) → Elements COLUMNS row → ResiduesArePairs gap row
+-- and on every row of 41 elements, under every gap of 32 bits: `residues_are_pairs_holds` in theorems
+abbrev pub ResiduesArePairs : Type 0
+ResiduesArePairs = (gap : ℕ) → gap < 2 ^ 32 → (row : List ℕ) → Elements COLUMNS row → RowPairs gap row

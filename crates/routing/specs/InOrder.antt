@@ -1,5 +1,5 @@
--- What a routed list means: "Three lists in arrival order", and no record lost. A consequence of the contract of `route_accesses`; proofs/
--- shows `RoutedInOrder` of every list that is routed. Assumes nothing.
+-- What a routed list means: "Three lists in arrival order", and no record lost. A consequence of the contract of `route_accesses`, which
+-- `routed_in_order_holds` in theorems carries. Assumes nothing.
 use mathlib.Core.Path.{_≡_}
 use mathlib.Core.List.{List, flatMap}
 use Prim.Native.Nat.{ℕ, _+_, _*_}

@@ -81,7 +81,7 @@ routable r = goodAccess r && addressFits (tableFor r) (at r BASE-ADDRESS)
 abbrev pub recordRefusal : List ℕ → ℕ → RouteAnswer
 recordRefusal r place = cond (goodAccess r) (BadAddress place) (BadRecord place)
 
--- the lowest record that is refused, or the record count
+-- the lowest index of a record that is refused, or the record count
 abbrev pub firstRefused : List ℕ → ℕ
 firstRefused l = firstBad ACCESS-WIDTH routable l
 

@@ -9,8 +9,8 @@ use lib.ListN.{length, getD, replicate}
 use lib.Arith.{digits-lt}
 use lib.Pow.{pow-pos, pow-add}
 use Rattle.lists.proofs.All.{all-replicate, each-of, of-each}
-use Rattle.words.specs.Words.{digits, number, Below, words, halves, bytes}
-use Rattle.words.proofs.Limbs.{mod-mul, low-limb, high-limb, Two, Four}
+use Rattle.words.specs.Words.{digits, number, Below, halves, bytes}
+use Rattle.words.proofs.Limbs.{mod-mul, low-limb, high-limb}
 
 pub digits-length : (w n x : ℕ) → length (digits w n x) ≡ n
 digits-length w zero x = refl
@@ -59,9 +59,6 @@ number-lt w (d ∷ ds) b =
 -- Halves and bytes of a 64-bit number
 
 module _ (x : ℕ) (fits : x < 2 ^ 64) where
-  pub halves-whole : number 16 (halves x) ≡ x
-  halves-whole = number-whole 16 4 x fits
-
   -- the digits that shifts take
   pub halves-shifted : x % 2 ^ 16 ∷ x / 2 ^ 16 % 2 ^ 16 ∷ x / 2 ^ 32 % 2 ^ 16 ∷ x / 2 ^ 48 ∷ [] ≡ halves x
   halves-shifted =
@@ -82,10 +79,3 @@ module _ (x : ℕ) (fits : x < 2 ^ 64) where
       let top : x / 2 ^ 56 ≡ x / 2 ^ 56 % 2 ^ 8 = omega arith in
       simp div-div-eq-div-mul
       (λ i. x % 2 ^ 8 ∷ x / 2 ^ 8 % 2 ^ 8 ∷ x / 2 ^ 16 % 2 ^ 8 ∷ x / 2 ^ 24 % 2 ^ 8 ∷ x / 2 ^ 32 % 2 ^ 8 ∷ x / 2 ^ 40 % 2 ^ 8 ∷ x / 2 ^ 48 % 2 ^ 8 ∷ top i ∷ [])
-
--- two limbs are the words, four are the halves
-pub words-two : (x a0 a1 : ℕ) → Two (2 ^ 32) x a0 a1 → a0 ∷ a1 ∷ [] ≡ words x
-words-two x a0 a1 t = λ i. t .l0 i ∷ t .l1 i ∷ []
-
-pub halves-four : (x a0 a1 a2 a3 : ℕ) → Four (2 ^ 16) x a0 a1 a2 a3 → a0 ∷ a1 ∷ a2 ∷ a3 ∷ [] ≡ halves x
-halves-four x a0 a1 a2 a3 f = λ i. f .l0 i ∷ f .l1 i ∷ f .l2 i ∷ f .l3 i ∷ []

@@ -2,3 +2,4 @@ pub mod Limbs
 pub mod Digits
 pub mod Wrap
 pub mod Bits
+pub mod Laws

@@ -1,5 +1,5 @@
--- Sums and differences modulo 2^64, plain and wrapped, and the words of a number. Document 01: "INCR, DECR and RES are sums taken modulo
--- 2^64, as the Rust's wrapping calls". Assumes nothing.
+-- Sums and differences modulo 2^64, plain and wrapped. Document 01: "INCR, DECR and RES are sums taken modulo 2^64, as the Rust's wrapping
+-- calls". Assumes nothing.
 use mathlib.Core.Path.{_≡_}
 use Prim.Native.Nat.{ℕ, _+_, _-_, _*_, _/_, _%_, _^_, _≤_, _<_}
 use native.Mathlib.Omega.{arith}
@@ -15,7 +15,3 @@ sub-plain a b ha h = omega arith
 
 pub sub-wrapped : (a b : ℕ) → b < 2 ^ 64 → a < b → wrapSub a b ≡ a + 2 ^ 64 - b
 sub-wrapped a b hb h = omega arith
-
--- a 64-bit number from its words
-pub from-words : (a : ℕ) → a < 2 ^ 64 → a ≡ a % 2 ^ 32 + 2 ^ 32 * (a / 2 ^ 32 % 2 ^ 32)
-from-words a h = omega arith
