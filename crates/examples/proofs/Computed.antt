@@ -1,11 +1,11 @@
--- Every starred example holds, by computing. Assumes nothing.
+-- Every starred example holds. Assumes nothing.
 use mathlib.Core.Path.{refl}
 use Rattle.field.specs.Field.{mulP}
 use Rattle.records.specs.RowCount.{rowCount, doubled}
 use Rattle.classify.proofs.Examples.{route-examples}
 use Rattle.memw.proofs.Examples.{carry-examples}
-use Rattle.copy_residues.proofs.Examples.{residue-examples}
 use Rattle.examples.specs.Examples.{StarredExamples}
+use Rattle.examples.proofs.RowExamples.{row-examples}
 
 pub starred-examples : StarredExamples
 unfolding mulP rowCount doubled
@@ -15,7 +15,7 @@ starred-examples =
       five-records = refl;
       minus-one-squared = refl;
       word-squared = refl;
-      residues = residue-examples;
+      rows = row-examples;
       carries = carry-examples;
       routes = route-examples;
     }

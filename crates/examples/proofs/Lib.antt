@@ -1,1 +1,2 @@
+pub mod RowExamples
 pub mod Computed
