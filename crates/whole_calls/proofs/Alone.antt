@@ -82,7 +82,7 @@ any-pieces (piece ∷ pieces) ok = (
   any-pieces pieces (ok .1),
 )
 
-any-calls : (gap : ℕ) (ks : List CutCall) → All (Fits gap) ks → All AnyCall ks
+pub any-calls : (gap : ℕ) (ks : List CutCall) → All (Fits gap) ks → All AnyCall ks
 any-calls gap [] fits = tt
 any-calls gap (k ∷ ks) fits = (
   record { words = fits .0 .sound .words; pieces = any-pieces (k .pieces) (fits .0 .pieces); row = fits-has-row gap k (fits .0) },

@@ -23,6 +23,7 @@ use Rattle.whole_calls.proofs.ReadBack.{reads-back, only-nine}
 use Rattle.whole_calls.proofs.Alone.{alone}
 use Rattle.whole_calls.proofs.Made.{written-calls}
 use Rattle.whole_calls.proofs.Accepted.{cutTry, tries-fit, tries-wrote, tries-handed}
+use Rattle.whole_calls.proofs.Refusals.{maker-refuses, refused-leaves, refused-adds}
 
 counts : (gap : ℕ) (l : List ℕ) → Passes gap l → chainAnswer gap l ≡ Passed (length l / COLUMNS)
 counts gap l e =
@@ -65,4 +66,7 @@ demand3 =
       alone = alone;
       only-nine = only-nine;
       made = made;
+      maker-refuses = maker-refuses;
+      refused-leaves = refused-leaves;
+      refused-adds = refused-adds;
     }

@@ -14,6 +14,7 @@ use Rattle.calls_in_turn.proofs.Computing as made
 use Rattle.whole_calls.specs.Demand.{WholeCalls, AnyCall}
 use Rattle.whole_calls.specs.Instances.{threeKinds, deadNotPadding, rows, unsound, threeTries, Instances}
 use Rattle.whole_calls.proofs.Whole.{dead-row, whole-calls}
+use Rattle.whole_calls.proofs.Alone.{any-calls}
 
 wide-ok : (byte : ℕ) → byte < 256 → PieceOk (wide byte)
 wide-ok byte h = record { wide = inr refl; eight = refl; bytes = omega arith; tail = λ e. absurd (omega arith) }
@@ -77,6 +78,8 @@ instances =
       short = refl;
       made = refl;
       table = refl;
+      alone-calls = any-calls 8 threeKinds three-fit;
+      alone-rows = rows-whole .live;
       any = unsound-any;
       refused-7 = refl;
       refused-13 = refl;

@@ -5,5 +5,6 @@ pub mod Alone
 pub mod GoodRecords
 pub mod Made
 pub mod Accepted
+pub mod Refusals
 pub mod Demand
 pub mod Instances

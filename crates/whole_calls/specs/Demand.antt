@@ -8,12 +8,15 @@ use Prim.Native.Nat.{ℕ, _*_, _/_, _%_, _^_, _≤_, _<_}
 use lib.ListN.{length, take}
 use Rattle.lists.specs.Lists.{store, at, All}
 use Rattle.records.specs.Records.{LIMIT}
+use Rattle.records.specs.Table.{tableNumbers}
 use Rattle.records.specs.declared.TableAnswer.the-variants.{Made}
 use Rattle.call.specs.Calls.{Piece}
 use Rattle.call.specs.Ops.{opRecord, OP-WIDTH}
 use Rattle.call.specs.Flat.{CALL-WIDTH, callNumbers}
 use Rattle.call.specs.Cuts.{Words, CutCall, opsOf, Fits, HasRow, callsOf}
 use Rattle.expansion.specs.Tries.{under, Try, Typed}
+use Rattle.expansion.specs.Refusals.{Accepts}
+use Rattle.expansion.specs.Expansion.{lentAfter}
 use Rattle.copy_row.specs.Columns.{MU, COLUMNS}
 use Rattle.copy_row.specs.Trace.{copyAnswer, copyAfter}
 use Rattle.copy_residues.specs.Residues.{residue, RESIDUES}
@@ -22,7 +25,7 @@ use Rattle.chain.specs.Chain.{tableRows, chainAnswer, chainNumbers}
 use Rattle.chain.specs.declared.ChainAnswer.the-variants.{Passed}
 use Rattle.read_back.specs.ReadBack.{liveRows, readBackAnswer, opsAfter, callsAfter, readBackNumbers}
 use Rattle.read_back.specs.declared.ReadBackAnswer.the-variants.{Read, BufferShort}
-use Rattle.calls_in_turn.specs.Accepted.{acceptedOps, acceptedCalls}
+use Rattle.calls_in_turn.specs.Accepted.{acceptedOf, acceptedOps, acceptedCalls}
 
 -- "A list passes under a gap when the chain check, given both, refuses nothing"
 abbrev pub Passes : ℕ → List ℕ → Type 0
@@ -101,3 +104,12 @@ pub record Demand3 : Type 0 where
       copyAnswer LIMIT records (length table) ≡ Made rows
       → let l = take (COLUMNS * rows) (copyAfter records (Made rows) table) in
       Passes gap l × ((ops calls : List ℕ) → ReadsBack gap l records (acceptedCalls (under gap) tries) ops calls)
+  -- the maker can refuse these records with 8 or 9 alone, whatever window each call found
+  pub maker-refuses : (gap : ℕ) → gap < 2 ^ 32 → (tries : List Try) → All Typed tries → (room : ℕ)
+      → let number = tableNumbers 8 (copyAnswer LIMIT (acceptedOps (under gap) tries) room) .number in
+      (number ≡ 0) ⊎ (number ≡ 8) ⊎ (number ≡ 9)
+  -- "a refused call leaves its window as it was and adds no record": its four slices are as they came, and those that are accepted are
+  -- what they are without it
+  pub refused-leaves : (gap : ℕ) (t : Try) → (Accepts (under gap) t → ⊥) → lentAfter (under gap) t ≡ t .slices
+  pub refused-adds : (gap : ℕ) (earlier later : List Try) (t : Try) → (Accepts (under gap) t → ⊥)
+      → acceptedOf (under gap) (earlier ++ (t ∷ later)) ≡ acceptedOf (under gap) (earlier ++ later)

@@ -1,8 +1,8 @@
 -- Small instances of what demand 3 speaks of, so that nothing in it is empty: lists that pass, and one for each refusal, computed over
--- the definitions. The theorem that they hold is in proofs/. Assumes nothing.
+-- the definitions. `demand_3_holds` carries them. Assumes nothing.
 use mathlib.Core.Path.{_≡_}
 use mathlib.Core.List.{List, [], _∷_, _++_, flatMap}
-use Prim.Native.Nat.{ℕ, _+_, _*_, _^_}
+use Prim.Native.Nat.{ℕ, _+_, _-_, _*_, _^_}
 use lib.ListN.{set, take, replicate}
 use Rattle.lists.specs.Lists.{All}
 use Rattle.field.specs.Field.{p}
@@ -17,13 +17,14 @@ use Rattle.expansion.specs.Refusals.{answered}
 use Rattle.copy_row.specs.Columns.{SRC, SRC-INCR, DST-INCR, MU-COM-WIDE, COLUMNS}
 use Rattle.copy_row.specs.Rows.{tableRow, paddingRow}
 use Rattle.copy_row.specs.Trace.{copyAnswer, copyAfter}
-use Rattle.chain.specs.Chain.{chainAnswer}
+use Rattle.copy_meaning.specs.RowIff.{CallRow}
+use Rattle.chain.specs.Chain.{tableRows, chainAnswer}
 use Rattle.chain.specs.declared.ChainAnswer.the-variants.{Passed, Refused}
 use Rattle.chain.specs.declared.ChainRefusal.the-variants.{GapTooLarge, NotRows, BadElement, BadRange, BadResidue, LinkBroken, NotEnded}
-use Rattle.read_back.specs.ReadBack.{readOps, readCalls, readBackAnswer}
+use Rattle.read_back.specs.ReadBack.{liveRows, readOps, readCalls, readBackAnswer}
 use Rattle.read_back.specs.declared.ReadBackAnswer.the-variants.{Read, BufferShort}
 use Rattle.calls_in_turn.specs.Accepted.{acceptedOf, acceptedOps}
-use Rattle.whole_calls.specs.Demand.{WholeCalls, AnyCall}
+use Rattle.whole_calls.specs.Demand.{Each, WholeCalls, AnyCall}
 
 -- a Copy of nine bytes in two rows, an empty Set whose one row has width 8 and values, and a Write of one byte; the gap is 8
 abbrev pub threeKinds : List CutCall
@@ -53,7 +54,7 @@ spoiled k c x = set rows (COLUMNS * k + c) x
 
 -- a Copy that would read past 2^64, in widths that do not add up
 abbrev pub unsound : CutCall
-unsound = record { call = record { kind = 0; stamp = 4; src = 18446744073709551615; dst = 0; count = 3 }; pieces = wide 1 ∷ wide 2 ∷ [] }
+unsound = record { call = record { kind = 0; stamp = 4; src = 2 ^ 64 - 1; dst = 0; count = 3 }; pieces = wide 1 ∷ wide 2 ∷ [] }
 
 -- calls for the expansion, each with a window of its own: a Copy of nine bytes, a Set whose dst is not a gap above its src, an empty Write
 abbrev pub window : ℕ → ℕ → ℕ → Lent
@@ -85,7 +86,10 @@ pub record Instances : Type 0 where
   -- the table made of the calls' records, in a lent table of 170 numbers, and its rows
   pub made : copyAnswer LIMIT records 170 ≡ Made 4
   pub table : chainAnswer 8 (take (COLUMNS * 4) (copyAfter records (Made 4) (replicate 170 1))) ≡ Passed 4
-  -- calls and widths of no sound call
+  -- what `alone` supposes: calls, widths and value bytes that have those live rows. Calls and widths of no sound call may be asked about
+  -- too
+  pub alone-calls : All AnyCall threeKinds
+  pub alone-rows : Each (CallRow 8) (opsOf threeKinds) (liveRows (tableRows rows))
   pub any : AnyCall unsound
   -- a list for each refusal of the chain check: a gap too large, a number too many, a number that is p, a half of 65,537, a wrong sum, a
   -- row out of its order, a live row after a dead one, a call cut off
