@@ -1,7 +1,8 @@
 /* The functions of the static library that `rt staticlib exports` makes. docs/CALLING.md says how to link it and what each
  * function writes; document 01's refusal numbers are listed there too.
  *
- * A slice is a pointer and its length in elements. Lent slices must not overlap, and the pointer of an empty one is not null.
+ * A slice is a pointer and its length in elements. The caller's part: every pointer is valid for its length, or for its array's, and
+ * aligned, not null even if the slice is empty; what is lent to be written overlaps nothing else of the call.
  * Any numbers may be passed: the answer is a result or a numbered refusal, and a refusal writes through no pointer. */
 #ifndef MINJOLF_H
 #define MINJOLF_H
