@@ -3,7 +3,7 @@
 
 use crate::generate::numbers::{edge, room};
 use crate::oracle::records::{ACCESS, OPERATION};
-use crate::oracle::{self, Answer, COPY_COLUMNS};
+use crate::oracle::{self, Answer, COPY_COLUMNS, LIST_LIMIT};
 use crate::protocol::{self, Argument, Reply};
 use crate::rng::Rng;
 use std::collections::BTreeMap;
@@ -85,8 +85,8 @@ pub fn recorded(
 }
 
 impl Trip {
-    /// The calls in turn over the window, each into the rest of `ops`; refused ones are
-    /// left out, and so are numbers behind the last whole call.
+    /// The whole calls in turn over the window, each into the rest of `ops`; refused ones
+    /// are left out.
     fn expand(&mut self) -> Expanded {
         let mut all = Expanded::default();
         for call in self.calls.chunks_exact(CALL) {
@@ -112,8 +112,21 @@ impl Trip {
         all
     }
 
+    /// 8 and 10 of the list of calls itself.
+    fn list(&self) -> Result<(), Answer> {
+        let (whole, cut) = (self.calls.len() / CALL, self.calls.len() % CALL);
+        if whole + usize::from(cut != 0) > LIST_LIMIT {
+            return Err(refused(8, 0));
+        }
+        if cut != 0 {
+            return Err(refused(10, whole));
+        }
+        Ok(())
+    }
+
     /// The answer, and the numbers of rows and calls; or the first step's refusal.
     fn steps(&mut self) -> Result<(Answer, [u64; 2]), Answer> {
+        self.list()?;
         let records = OPERATION * self.expand().records;
         let ops = &self.ops[..records];
         let rows = accepted(oracle::generate_copy_trace(ops, &mut self.table))?.value;
@@ -160,23 +173,24 @@ impl Trip {
         arguments
     }
 
-    /// What makes two questions alike. Of those refused: which lists are short. Of those
-    /// that pass: the first refused call's number, and whether one before it and one after
-    /// it are accepted; without a refused call the table's rows, and of the shortest tables
-    /// the first call's kind and whether the last call is cut.
+    /// What makes two questions alike. Of those whose last call is cut: how many whole ones
+    /// it follows. Of those refused otherwise: which lists are short. Of those that pass:
+    /// the first refused call's number, and whether one before it and one after it are
+    /// accepted; without a refused call the table's rows, and of the shortest tables the
+    /// first call's kind.
     fn class(&self, reply: &Reply) -> [u64; 4] {
         let all = self.clone().expand();
         let short = |list: &[u64], result| u64::from(list.len() < result);
         let table = short(&self.table, COPY_COLUMNS * rows_for(all.records));
         let ops = short(&self.ops_back, OPERATION * all.records);
-        let cut = u64::from(!self.calls.len().is_multiple_of(CALL));
         match (reply.answer.number, all.first_refusal(), reply.lent[0][0]) {
             (0, Some((refusal, around)), _) => {
                 let [before, after] = around.map(u64::from);
                 [0, refusal, before, after]
             }
-            (0, None, 4) if all.records != 0 => [0, 0, 4 + self.calls[0], cut],
+            (0, None, 4) if all.records != 0 => [0, 0, 4 + self.calls[0], 0],
             (0, None, rows) => [0, 0, rows.min(4 * all.records as u64), 0],
+            (10, _, _) => [10, reply.answer.place.min(2), 0, 0],
             (number, _, _) => [number, table, ops, 0],
         }
     }
@@ -186,6 +200,14 @@ fn accepted(answer: Answer) -> Result<Answer, Answer> {
     match answer.number {
         0 => Ok(answer),
         _ => Err(answer),
+    }
+}
+
+fn refused(number: u64, place: usize) -> Answer {
+    Answer {
+        number,
+        place: place as u64,
+        value: 0,
     }
 }
 

@@ -6,10 +6,10 @@ use round_trip::RoundTripAnswer;
 ghost use lib.ListN.{length};
 ghost use Prim.Native.Nat.{_≤_, _<_};
 
-fn print_numbers(number: u64, ops: usize, rows: usize, calls: usize) {
+fn print_numbers(number: u64, place: usize, ops: usize, rows: usize, calls: usize) {
     replay::print_answer(Answer {
         number,
-        place: 0,
+        place: place as u64,
         value: ops as u64,
     });
     replay::print(2);
@@ -19,9 +19,10 @@ fn print_numbers(number: u64, ops: usize, rows: usize, calls: usize) {
 
 fn print_outcome(answer: RoundTripAnswer) {
     match answer {
-        RoundTripAnswer::Passed { rows, ops, calls } => print_numbers(0, ops, rows, calls),
-        RoundTripAnswer::TooManyRecords => print_numbers(8, 0, 0, 0),
-        RoundTripAnswer::BufferShort => print_numbers(9, 0, 0, 0),
+        RoundTripAnswer::Passed { rows, ops, calls } => print_numbers(0, 0, ops, rows, calls),
+        RoundTripAnswer::TooManyRecords => print_numbers(8, 0, 0, 0, 0),
+        RoundTripAnswer::NotWhole { place } => print_numbers(10, place, 0, 0, 0),
+        RoundTripAnswer::BufferShort => print_numbers(9, 0, 0, 0, 0),
     }
 }
 

@@ -1,9 +1,9 @@
--- What the code needs: what `decide` has found out where it answers a pass, what the parts that `run` lends are, and how a trip ends.
+-- What the code needs: what `foretell` has found out where it answers a pass, what the parts that `run` lends are, and how a trip ends.
 -- Assumes nothing.
 use mathlib.Core.Path.{_≡_, refl, sym, ap, _∙_}
 use mathlib.Core.Bool.{Bool, true, false, cond, _||_}
 use mathlib.Core.List.{List, [], _∷_}
-use Prim.Native.Nat.{ℕ, _-_, _*_, _≤_}
+use Prim.Native.Nat.{ℕ, _-_, _*_, _/_, _%_, _≤_}
 use native.Mathlib.Nat.{sub-zero}
 use native.Mathlib.Omega.{arith}
 use borrow.Author.Tests.{ltb-false}
@@ -14,12 +14,12 @@ use lib.Seq.{take-at}
 use types.Run.{OneOf, miss}
 use Rattle.lists.specs.Lists.{store}
 use Rattle.lists.proofs.Store.{length-store, store-eq}
-use Rattle.records.specs.Records.{LIMIT}
+use Rattle.records.specs.Records.{LIMIT, recordCount}
 use Rattle.records.specs.RowCount.{rowCount}
 use Rattle.records.specs.declared.TableAnswer.{TableAnswer}
 use Rattle.records.specs.declared.TableAnswer.the-variants.{Made}
 use Rattle.call.specs.Ops.{OP-WIDTH}
-use Rattle.call.specs.Flat.{CALL-WIDTH}
+use Rattle.call.specs.Flat.{CALL-WIDTH, HANDED-WIDTH}
 use Rattle.expansion.specs.Tries.{Lent}
 use Rattle.copy_row.specs.Columns.{COLUMNS}
 use Rattle.copy_row.specs.Trace.{copyAnswer, copyAfter}
@@ -30,14 +30,14 @@ use Rattle.calls_in_turn.specs.InTurn.{callsIn, allExpanded}
 use Rattle.calls_in_turn.proofs.Counted.{records-fit}
 use Rattle.round_trip.specs.Trip.{TripLent, Trip, settingOf, recordsHanded, tableMade, written}
 use Rattle.round_trip.specs.Trip.{RoundTripNumbers, tripNumbers, roundTripNumbers, tripRun, tripAfter, Ended}
-use Rattle.round_trip.specs.Legs.{decided, Tabled}
+use Rattle.round_trip.specs.Legs.{decided, foretold, Tabled}
 use Rattle.round_trip.specs.RoundTrip.{TypedTrip}
 use Rattle.round_trip.specs.declared.RoundTripAnswer.{RoundTripAnswer}
-use Rattle.round_trip.specs.declared.RoundTripAnswer.the-variants.{Passed, TooManyRecords, BufferShort}
+use Rattle.round_trip.specs.declared.RoundTripAnswer.the-variants.{Passed, TooManyRecords, NotWhole, BufferShort}
 use Rattle.round_trip.proofs.RoundTripAnswer.{the-type}
-use Rattle.round_trip.proofs.Whole.{handed-length, decidedOf, made, decided-is}
+use Rattle.round_trip.proofs.Whole.{handed-length, decidedOf, foretoldOf, made, foretold-is}
 
--- `decide`
+-- `decide` and `foretell`
 
 module _ (n m tableRoom opsRoom callsRoom : ℕ) where
   -- what a pass has found out
@@ -60,6 +60,18 @@ module _ (n m tableRoom opsRoom callsRoom : ℕ) where
       go false false true p q e = let never : _≡_ {A = ℕ} 0 1 = cc in absurd (omega arith)
       go false false false p q e =
           record { few = ltb-false LIMIT n p; rows-are = cc; ops-are = cc; calls-are = cc; room = ltb-false tableRoom _ q }
+
+-- a pass is one by the counts
+pub passed-counts : (t : Trip) (rows ops calls : ℕ) → foretoldOf t ≡ Passed rows ops calls → decidedOf t ≡ Passed rows ops calls
+unfolding foretold
+passed-counts t rows ops calls = go (ltb LIMIT (recordCount HANDED-WIDTH (t .calls))) (eqb (length (t .calls) % HANDED-WIDTH) 0)
+  where
+    go : (many whole : Bool)
+        → cond many TooManyRecords (cond whole (decidedOf t) (NotWhole (length (t .calls) / HANDED-WIDTH))) ≡ Passed rows ops calls
+        → decidedOf t ≡ Passed rows ops calls
+    go true whole e = let never : _≡_ {A = ℕ} 0 1 = cc in absurd (omega arith)
+    go false true e = e
+    go false false e = let never : _≡_ {A = ℕ} 0 1 = cc in absurd (omega arith)
 
 -- `run`
 
@@ -114,14 +126,14 @@ module _ (t : Trip) (n rows : ℕ) (tabled : Tabled t n rows) where
 
 -- `round_trip`
 
-module _ (t : Trip) (typed : TypedTrip t) (a : RoundTripAnswer) (e : a ≡ decidedOf t) where
+module _ (t : Trip) (typed : TypedTrip t) (a : RoundTripAnswer) (e : a ≡ foretoldOf t) where
   numbers : roundTripNumbers a ≡ tripNumbers t
-  numbers = ap roundTripNumbers e ∙ decided-is t typed
+  numbers = ap roundTripNumbers e ∙ foretold-is t typed
 
   -- `run` may go on
   pub may-run : (rows ops calls : ℕ) → a ≡ Passed rows ops calls → Tabled t ops rows
   may-run rows ops calls q =
-      let f = decided-found _ _ _ _ _ rows ops calls (sym e ∙ q) in
+      let f = decided-found _ _ _ _ _ rows ops calls (passed-counts t rows ops calls (sym e ∙ q)) in
       record {
         made = made t typed (f .few) (f .room) ∙ ap Made (sym (f .rows-are));
         records = handed-length t ∙ ap (λ n. OP-WIDTH * n) (sym (f .ops-are));
@@ -137,14 +149,15 @@ module _ (t : Trip) (typed : TypedTrip t) (a : RoundTripAnswer) (e : a ≡ decid
       record { answer = numbers; lists = rw (none, same) r }
 
   -- a refusal writes nothing; its case is not the first, which is Passed
-  pub ended-refused : OneOf (1 ∷ 2 ∷ []) (tagOf the-type a) → Ended t (roundTripNumbers a) (t .lists)
+  pub ended-refused : OneOf (1 ∷ 2 ∷ 3 ∷ []) (tagOf the-type a) → Ended t (roundTripNumbers a) (t .lists)
   unfolding tripAfter
   ended-refused h =
       let other : eqb (tripNumbers t .answer .number) 0 ≡ false =
       ap (λ (x : RoundTripNumbers). eqb (x .answer .number) 0) (sym numbers) ∙ go a h in
       record { answer = numbers; lists = rw other }
     where
-      go : (b : RoundTripAnswer) → OneOf (1 ∷ 2 ∷ []) (tagOf the-type b) → eqb (roundTripNumbers b .answer .number) 0 ≡ false
-      go (Passed rows ops calls) h = absurd (miss (1 ∷ 2 ∷ []) 0 tt h)
+      go : (b : RoundTripAnswer) → OneOf (1 ∷ 2 ∷ 3 ∷ []) (tagOf the-type b) → eqb (roundTripNumbers b .answer .number) 0 ≡ false
+      go (Passed rows ops calls) h = absurd (miss (1 ∷ 2 ∷ 3 ∷ []) 0 tt h)
       go TooManyRecords h = refl
+      go (NotWhole place) h = refl
       go BufferShort h = refl

@@ -4,7 +4,7 @@ use native.Mathlib.Omega.{arith}
 use Rattle.words.proofs.Digits.{below-same}
 use Rattle.calls_in_turn.proofs.Computing as made
 use Rattle.read_back.proofs.Computing as judged
-use Rattle.round_trip.specs.Trip.{tripNumbers, tripRun, tripAfter}
+use Rattle.round_trip.specs.Trip.{stepsNumbers, tripNumbers, tripRun, tripAfter}
 use Rattle.round_trip.specs.RoundTrip.{TypedTrip}
 use Rattle.round_trip.specs.Instances.{tripWith, Instances}
 
@@ -16,7 +16,7 @@ typed =
     }
 
 pub instances : Instances
-unfolding made.computing judged.computing tripNumbers tripRun tripAfter
+unfolding made.computing judged.computing stepsNumbers tripNumbers tripRun tripAfter
 instances =
     record {
       typed = typed;
@@ -24,6 +24,8 @@ instances =
       calls = refl;
       fewer = refl;
       none = refl;
+      cut = refl;
+      cut-kept = refl;
       table-short = refl;
       ops-short = refl;
       calls-short = refl;

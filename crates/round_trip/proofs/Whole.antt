@@ -1,15 +1,15 @@
--- The three ways that a trip can end, by its counts: above 65,536 records, a buffer that is short, or through; and what the definitions
--- come to in each. The records of accepted calls are good, so the maker has nothing else to refuse, and demand 3 says that the rows written
--- pass and are read back as what went in. Assumes nothing.
+-- The ways that a trip can end: the list of calls is refused itself; or, by its counts, above 65,536 records, a buffer that is short, or
+-- through; and what the definitions come to in each. The records of accepted calls are good, so the maker has nothing else to refuse, and
+-- demand 3 says that the rows written pass and are read back as what went in. Assumes nothing.
 use mathlib.Core.Path.{_≡_, refl, sym, ap, _∙_}
 use mathlib.Core.Bool.{Bool, true, false, cond, or-true}
 use mathlib.Core.Logic.{_⊎_, inl, inr}
 use mathlib.Core.List.{List, map, flatMap}
 use mathlib.Core.Option.{none}
-use Prim.Native.Nat.{ℕ, _*_, _/_, _≤_, _<_}
+use Prim.Native.Nat.{ℕ, _*_, _/_, _%_, _≤_, _<_}
 use native.Mathlib.Omega.{arith}
-use borrow.Author.Tests.{lt-ltb, le-ltb, le-leb, lt-leb, ltb-true, ltb-false, leb-true, leb-false}
-use lib.Dec.{ltb, leb}
+use borrow.Author.Tests.{lt-ltb, le-ltb, le-leb, lt-leb, ltb-true, ltb-false, leb-true, leb-false, eqb-true, eqb-false}
+use lib.Dec.{ltb, leb, eqb}
 use lib.ListN.{length}
 use Rattle.answer.specs.Numbers.{accepted, refused}
 use Rattle.lists.specs.Lists.{store, All}
@@ -40,11 +40,11 @@ use Rattle.whole_calls.proofs.GoodRecords.{records-wide, maker-answer}
 use Rattle.whole_calls.proofs.Accepted.{cutTry, tries-fit, tries-wrote}
 use Rattle.whole_calls.proofs.Demand.{demand3}
 use Rattle.round_trip.specs.Trip.{Trip, settingOf, tries, recordsHanded, callsHanded, maker, written, reader}
-use Rattle.round_trip.specs.Trip.{RoundTripNumbers, refusedBy, fromReader, onMaker, tripNumbers, roundTripNumbers}
-use Rattle.round_trip.specs.Legs.{decided}
-use Rattle.round_trip.specs.RoundTrip.{TypedTrip}
+use Rattle.round_trip.specs.Trip.{RoundTripNumbers, refusedBy, fromReader, onMaker, stepsNumbers, onList, tripNumbers, roundTripNumbers}
+use Rattle.round_trip.specs.Legs.{decided, foretold}
+use Rattle.round_trip.specs.RoundTrip.{TypedTrip, callsCount, GoodList}
 use Rattle.round_trip.specs.declared.RoundTripAnswer.{RoundTripAnswer}
-use Rattle.round_trip.specs.declared.RoundTripAnswer.the-variants.{TooManyRecords, BufferShort}
+use Rattle.round_trip.specs.declared.RoundTripAnswer.the-variants.{TooManyRecords, NotWhole, BufferShort}
 
 -- how many records and calls go in
 abbrev pub recordsAhead : Trip → ℕ
@@ -74,7 +74,12 @@ ShortOf t =
 abbrev pub decidedOf : Trip → RoundTripAnswer
 decidedOf t = decided (recordsAhead t) (callsAhead t) (length (t .lists .table)) (length (t .lists .opsBack)) (length (t .lists .callsBack))
 
--- the three ways
+-- and by the list of calls before them
+abbrev pub foretoldOf : Trip → RoundTripAnswer
+foretoldOf t =
+    foretold (t .gap) (t .calls) (lengths (t .lists .slices)) (length (t .lists .table)) (length (t .lists .opsBack)) (length (t .lists .callsBack))
+
+-- the three ways of a list that is not refused itself
 pub data Way (t : Trip) : Type 0 where
   over : LIMIT < recordsAhead t → Way t
   short : recordsAhead t ≤ LIMIT → ShortOf t → Way t
@@ -123,16 +128,16 @@ module _ (t : Trip) (typed : TypedTrip t) where
       ∙ maker-answer (t .gap) LIMIT (length (t .lists .table)) (opsOf ks) live
       ∙ ap makerFor ops-count
 
-  pub trip-over : LIMIT < recordsAhead t → tripNumbers t ≡ refusedBy (refused 8 0)
-  unfolding tripNumbers
-  trip-over h =
+  pub steps-over : LIMIT < recordsAhead t → stepsNumbers t ≡ refusedBy (refused 8 0)
+  unfolding stepsNumbers
+  steps-over h =
       let made : maker t ≡ table.TooManyRecords = maker-is ∙ rw (lt-ltb _ _ h) in
       ap (λ (a : TableAnswer). onMaker a (λ rows. fromReader rows (reader t rows))) made
 
   module _ (few : recordsAhead t ≤ LIMIT) where
-    trip-unmade : length (t .lists .table) < COLUMNS * rowCount (recordsAhead t) → tripNumbers t ≡ refusedBy (refused 9 0)
-    unfolding tripNumbers
-    trip-unmade h =
+    steps-unmade : length (t .lists .table) < COLUMNS * rowCount (recordsAhead t) → stepsNumbers t ≡ refusedBy (refused 9 0)
+    unfolding stepsNumbers
+    steps-unmade h =
         let made : maker t ≡ table.BufferShort = maker-is ∙ rw (le-ltb _ _ few, lt-leb _ _ h) in
         ap (λ (a : TableAnswer). onMaker a (λ rows. fromReader rows (reader t rows))) made
 
@@ -148,13 +153,13 @@ module _ (t : Trip) (typed : TypedTrip t) where
           × ((ops calls : List ℕ) → ReadsBack (t .gap) (written t rows) (recordsHanded t) (callsHanded t) ops calls)
       by-demand = demand3 .made (t .gap) (typed .gap) (tries t) all-typed (t .lists .table) rows made
 
-      on-reader : (a : ReadBackAnswer) → reader t rows ≡ a → tripNumbers t ≡ fromReader rows a
-      unfolding tripNumbers
+      on-reader : (a : ReadBackAnswer) → reader t rows ≡ a → stepsNumbers t ≡ fromReader rows a
+      unfolding stepsNumbers
       on-reader a e = ap (λ (x : TableAnswer). onMaker x (λ n. fromReader n (reader t n))) made ∙ ap (fromReader rows) e
 
-      pub trip-unread : (length (t .lists .opsBack) < OP-WIDTH * recordsAhead t) ⊎ (length (t .lists .callsBack) < CALL-WIDTH * callsAhead t)
-          → tripNumbers t ≡ refusedBy (refused 9 0)
-      trip-unread h = on-reader read.BufferShort (by-demand .1 (t .lists .opsBack) (t .lists .callsBack) .short (go h))
+      pub steps-unread : (length (t .lists .opsBack) < OP-WIDTH * recordsAhead t) ⊎ (length (t .lists .callsBack) < CALL-WIDTH * callsAhead t)
+          → stepsNumbers t ≡ refusedBy (refused 9 0)
+      steps-unread h = on-reader read.BufferShort (by-demand .1 (t .lists .opsBack) (t .lists .callsBack) .short (go h))
         where
           go : (length (t .lists .opsBack) < OP-WIDTH * recordsAhead t) ⊎ (length (t .lists .callsBack) < CALL-WIDTH * callsAhead t)
               → (length (t .lists .opsBack) < length (recordsHanded t)) ⊎ (length (t .lists .callsBack) < length (callsHanded t))
@@ -168,8 +173,8 @@ module _ (t : Trip) (typed : TypedTrip t) where
         back =
             by-demand .1 (t .lists .opsBack) (t .lists .callsBack) .reads (omega (arith, handed-length t)) (omega (arith, calls-length t))
 
-        pub trip-passed : tripNumbers t ≡ through t
-        trip-passed =
+        pub steps-passed : stepsNumbers t ≡ through t
+        steps-passed =
             let n : length (recordsHanded t) / OP-WIDTH ≡ recordsAhead t = omega (arith, handed-length t) in
             let m : length (callsHanded t) / CALL-WIDTH ≡ callsAhead t = omega (arith, calls-length t) in
             on-reader (read.Read (recordsAhead t) (callsAhead t)) (back .0 ∙ rw (n, m))
@@ -180,19 +185,19 @@ module _ (t : Trip) (typed : TypedTrip t) where
         pub read-calls : callsAfter (reader t rows) (written t rows) (t .lists .callsBack) ≡ store (t .lists .callsBack) 0 (callsHanded t)
         read-calls = back .2
 
-  pub trip-short : recordsAhead t ≤ LIMIT → ShortOf t → tripNumbers t ≡ refusedBy (refused 9 0)
-  trip-short few (inl h) = trip-unmade few h
-  trip-short few (inr h) = go (leb (COLUMNS * rowCount (recordsAhead t)) (length (t .lists .table))) refl
+  pub steps-short : recordsAhead t ≤ LIMIT → ShortOf t → stepsNumbers t ≡ refusedBy (refused 9 0)
+  steps-short few (inl h) = steps-unmade few h
+  steps-short few (inr h) = go (leb (COLUMNS * rowCount (recordsAhead t)) (length (t .lists .table))) refl
     where
-      go : (x : Bool) → leb (COLUMNS * rowCount (recordsAhead t)) (length (t .lists .table)) ≡ x → tripNumbers t ≡ refusedBy (refused 9 0)
-      go true e = trip-unread few (leb-true _ _ e) h
-      go false e = trip-unmade few (leb-false _ _ e)
+      go : (x : Bool) → leb (COLUMNS * rowCount (recordsAhead t)) (length (t .lists .table)) ≡ x → stepsNumbers t ≡ refusedBy (refused 9 0)
+      go true e = steps-unread few (leb-true _ _ e) h
+      go false e = steps-unmade few (leb-false _ _ e)
 
   -- the answer by counts is the answer
   abbrev unmade : Bool
   unmade = ltb (length (t .lists .table)) (COLUMNS * rowCount (recordsAhead t))
 
-  pub decided-is : roundTripNumbers (decidedOf t) ≡ tripNumbers t
+  pub decided-is : roundTripNumbers (decidedOf t) ≡ stepsNumbers t
   unfolding decided
   decided-is = go (way t)
     where
@@ -200,12 +205,43 @@ module _ (t : Trip) (typed : TypedTrip t) where
       either true = refl
       either false = refl
 
-      go : Way t → roundTripNumbers (decidedOf t) ≡ tripNumbers t
-      go (over h) = rw (lt-ltb _ _ h) (sym (trip-over h))
-      go (short few (inl h)) = rw (le-ltb _ _ few, lt-ltb _ _ h) (sym (trip-short few (inl h)))
+      go : Way t → roundTripNumbers (decidedOf t) ≡ stepsNumbers t
+      go (over h) = rw (lt-ltb _ _ h) (sym (steps-over h))
+      go (short few (inl h)) = rw (le-ltb _ _ few, lt-ltb _ _ h) (sym (steps-short few (inl h)))
       go (short few (inr (inl h))) =
-          rw (le-ltb _ _ few, lt-ltb (length (t .lists .opsBack)) (OP-WIDTH * recordsAhead t) h) (either unmade ∙ sym (trip-short few (inr (inl h))))
+          rw (le-ltb _ _ few, lt-ltb (length (t .lists .opsBack)) (OP-WIDTH * recordsAhead t) h) (either unmade ∙ sym (steps-short few (inr (inl h))))
       go (short few (inr (inr h))) =
           rw (le-ltb _ _ few, lt-ltb (length (t .lists .callsBack)) (CALL-WIDTH * callsAhead t) h, or-true)
-          (either unmade ∙ sym (trip-short few (inr (inr h))))
-      go (passed few room a b) = rw (le-ltb _ _ few, le-ltb _ _ room, le-ltb _ _ a, le-ltb _ _ b) (sym (trip-passed few room a b))
+          (either unmade ∙ sym (steps-short few (inr (inr h))))
+      go (passed few room a b) = rw (le-ltb _ _ few, le-ltb _ _ room, le-ltb _ _ a, le-ltb _ _ b) (sym (steps-passed few room a b))
+
+  -- and so it is with the list of calls before it
+  pub foretold-is : roundTripNumbers (foretoldOf t) ≡ tripNumbers t
+  unfolding foretold tripNumbers
+  foretold-is = go (ltb LIMIT (callsCount t)) (eqb (length (t .calls) % HANDED-WIDTH) 0)
+    where
+      go : (many whole : Bool)
+          → let place = length (t .calls) / HANDED-WIDTH in
+          roundTripNumbers (cond many TooManyRecords (cond whole (decidedOf t) (NotWhole place)))
+          ≡ cond many (refusedBy (refused 8 0)) (cond whole (stepsNumbers t) (refusedBy (refused 10 place)))
+      go true whole = refl
+      go false true = decided-is
+      go false false = refl
+
+-- The list of calls
+
+-- too many calls, a cut last one, or neither
+pub data Listed (t : Trip) : Type 0 where
+  many : LIMIT < callsCount t → tripNumbers t ≡ refusedBy (refused 8 0) → Listed t
+  cut : callsCount t ≤ LIMIT → 0 < length (t .calls) % HANDED-WIDTH
+      → tripNumbers t ≡ refusedBy (refused 10 (length (t .calls) / HANDED-WIDTH)) → Listed t
+  good : GoodList t → tripNumbers t ≡ stepsNumbers t → Listed t
+
+pub listed : (t : Trip) → Listed t
+unfolding tripNumbers
+listed t = go _ _ refl refl
+  where
+    go : (x y : Bool) → ltb LIMIT (callsCount t) ≡ x → eqb (length (t .calls) % HANDED-WIDTH) 0 ≡ y → Listed t
+    go true y p q = many (ltb-true _ _ p) (rw p)
+    go false false p q = cut (ltb-false _ _ p) (omega (arith, eqb-false (length (t .calls) % HANDED-WIDTH) 0 q)) (rw (p, q))
+    go false true p q = good (ltb-false _ _ p, eqb-true _ _ q) (rw (p, q))

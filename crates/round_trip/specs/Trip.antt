@@ -1,18 +1,20 @@
 -- The whole way: calls are expanded in turn over one window, their operation records become a table, and the rows written are checked and
--- read back. All of it is put together from the definitions that the contracts of the expansion, the maker and read-back cite. Refused
--- calls are passed over, the maker's and read-back's refusals are passed up unchanged, and a refusal writes nothing. Assumes nothing.
+-- read back. All of it is put together from the definitions that the contracts of the expansion, the maker and read-back cite. The list of
+-- calls is judged first, as every list of records is. Refused calls are passed over, the maker's and read-back's refusals are passed up
+-- unchanged, and a refusal writes nothing. Assumes nothing.
 use mathlib.Core.Path.{_≡_}
 use mathlib.Core.Bool.{cond}
 use mathlib.Core.List.{List}
-use Prim.Native.Nat.{ℕ, _*_}
-use lib.Dec.{eqb}
+use Prim.Native.Nat.{ℕ, _*_, _/_, _%_}
+use lib.Dec.{eqb, ltb}
 use lib.ListN.{length, take}
 use Rattle.answer.specs.Numbers as numbers
 use Rattle.answer.specs.declared.Answer.{Answer}
-use Rattle.records.specs.Records.{LIMIT}
+use Rattle.records.specs.Records.{LIMIT, recordCount}
 use Rattle.records.specs.Table.{tableNumbers}
 use Rattle.records.specs.declared.TableAnswer.{TableAnswer}
 use Rattle.records.specs.declared.TableAnswer.the-variants as table
+use Rattle.call.specs.Flat.{HANDED-WIDTH}
 use Rattle.expansion.specs.Tries.{Setting, under, Lent, lent, Try}
 use Rattle.copy_row.specs.Columns.{COLUMNS}
 use Rattle.copy_row.specs.Trace.{copyAnswer, copyAfter}
@@ -21,7 +23,7 @@ use Rattle.read_back.specs.declared.ReadBackAnswer.{ReadBackAnswer}
 use Rattle.calls_in_turn.specs.Accepted.{acceptedOps, acceptedCalls}
 use Rattle.calls_in_turn.specs.InTurn.{callsIn, triesOf, allExpanded}
 use Rattle.round_trip.specs.declared.RoundTripAnswer.{RoundTripAnswer}
-use Rattle.round_trip.specs.declared.RoundTripAnswer.the-variants.{Passed, TooManyRecords, BufferShort}
+use Rattle.round_trip.specs.declared.RoundTripAnswer.the-variants.{Passed, TooManyRecords, NotWhole, BufferShort}
 
 -- what is lent: the expansion's four slices, the table, and read-back's two buffers
 pub record TripLent : Type 0 where
@@ -100,14 +102,26 @@ onMaker table.TooManyRecords next = refusedBy (tableNumbers 8 table.TooManyRecor
 onMaker (table.BadRecord place) next = refusedBy (tableNumbers 8 (table.BadRecord place))
 onMaker table.BufferShort next = refusedBy (tableNumbers 8 table.BufferShort)
 
+-- the answer of the steps on a list of calls that is not refused itself
+unfoldable pub stepsNumbers : Trip → RoundTripNumbers
+stepsNumbers t = onMaker (maker t) (λ rows. fromReader rows (reader t rows))
+
+-- the refusals of the list of calls itself, before a call is looked at. Document 01: 8 of "an input list above 65,536 records, a cut last
+-- one counted", and 10 of a "list not whole records .. place is the record (a cut last one counts)"; else `next` decides
+abbrev pub onList : List ℕ → RoundTripNumbers → RoundTripNumbers
+onList calls next =
+    cond (ltb LIMIT (recordCount HANDED-WIDTH calls)) (refusedBy (numbers.refused 8 0))
+    (cond (eqb (length calls % HANDED-WIDTH) 0) next (refusedBy (numbers.refused 10 (length calls / HANDED-WIDTH))))
+
 -- the whole answer
 unfoldable pub tripNumbers : Trip → RoundTripNumbers
-tripNumbers t = onMaker (maker t) (λ rows. fromReader rows (reader t rows))
+tripNumbers t = onList (t .calls) (stepsNumbers t)
 
 -- the numbers of each case of the code's answer
 abbrev pub roundTripNumbers : RoundTripAnswer → RoundTripNumbers
 roundTripNumbers (Passed rows ops calls) = record { answer = numbers.accepted ops; rows = rows; calls = calls }
 roundTripNumbers TooManyRecords = refusedBy (numbers.refused 8 0)
+roundTripNumbers (NotWhole place) = refusedBy (numbers.refused 10 place)
 roundTripNumbers BufferShort = refusedBy (numbers.refused 9 0)
 
 -- What is lent, afterwards

@@ -1,22 +1,26 @@
-// Internal to the workspace, not open to callers: the answer by counts, and the way itself once nothing will be refused. Assumes nothing
+// Internal to the workspace, not open to callers: the answer by lengths, and the way itself once nothing will be refused. Assumes nothing
 // but what each `requires` says.
 ghost use mathlib.Core.Path.{_≡_};
 ghost use Prim.Native.Nat.{_*_, _^_, _<_};
 ghost use Rattle.call.specs.Flat.{CALL-WIDTH};
+ghost use Rattle.expansion.specs.Tries.{lengthsAre};
 ghost use Rattle.round_trip.specs.Trip.{tripLent, tripOf, tripRun};
-ghost use Rattle.round_trip.specs.Legs.{decided, Tabled};
+ghost use Rattle.round_trip.specs.Legs.{decided, foretold, Tabled};
 use crate::RoundTripAnswer;
 use call::CALL_WIDTH;
+use call::HANDED_WIDTH;
 use call::OP_WIDTH;
+use calls_in_turn::ahead::count;
 use calls_in_turn::turns::expand_all;
 use copy_row::cols::NUM_COLUMNS;
 use copy_row::generate_copy_trace;
 use read_back::read_back;
 use records::LIMIT;
+use records::tables::record_count;
 use records::tables::row_count;
 
 // The answer for `n` records and `m` calls: 8 and 9 of the maker, and 9 of read-back.
-pub fn decide(
+fn decide(
     n: usize,
     m: usize,
     table_room: usize,
@@ -43,8 +47,35 @@ pub fn decide(
     }
 }
 
+// The answer, before anything is written: 8 and 10 of the list of calls, then what the counts of the accepted ones say.
+pub fn foretell(
+    gap: u64,
+    calls: &[u64],
+    cells: usize,
+    stamped: usize,
+    room: usize,
+    space: usize,
+    table_room: usize,
+    ops_room: usize,
+    calls_room: usize,
+) -> RoundTripAnswer
+    ensures { λ r. ⌜ r
+        ≡ foretold gap (now (calls .entry)) (lengthsAre cells stamped room space) «table_room» «ops_room» «calls_room» ⌝ }
+{
+    if LIMIT < record_count(calls, HANDED_WIDTH) {
+        return RoundTripAnswer::TooManyRecords;
+    }
+    if 0 < calls.len() % HANDED_WIDTH {
+        return RoundTripAnswer::NotWhole {
+            place: calls.len() / HANDED_WIDTH,
+        };
+    }
+    let found = count(gap, calls, cells, stamped, room, space);
+    decide(found.ops, found.calls, table_room, ops_room, calls_room)
+}
+
 // Expands the calls, makes the table of the `n` records, checks its `rows` rows and reads them back. The maker's and read-back's answers
-// are not looked at: `decide` has told them.
+// are not looked at: `foretell` has told them.
 pub fn run(
     gap: u64,
     n: usize,

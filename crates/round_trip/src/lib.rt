@@ -7,7 +7,6 @@ ghost use mathlib.Core.Bool.{true};
 ghost use Rattle.round_trip.specs.Trip.{tripLent, tripOf, roundTripNumbers, Ended};
 ghost use Rattle.round_trip.specs.RoundTrip.{RoundTrip};
 ghost use Rattle.round_trip.specs.Instances.{Instances};
-use calls_in_turn::ahead::count;
 
 pub enum RoundTripAnswer {
     // nothing is refused: how many rows the table has, and how many operation records and calls came back
@@ -16,15 +15,20 @@ pub enum RoundTripAnswer {
         ops: usize,
         calls: usize,
     },
-    // 8: above 65,536 operation records
+    // 8: above 65,536 calls, a cut last one counted, or above 65,536 operation records
     TooManyRecords,
+    // 10: the list of calls is not whole calls; the last one is cut
+    NotWhole {
+        place: usize,
+    },
     // 9: the table, or one of read-back's buffers, is shorter than the result
     BufferShort,
 }
 
-// Expands the calls (five numbers each: kind, stamp, src, dst, count; what is left over is not read) one by one over the window, passing
-// over those that are refused; makes the table of their records; checks the rows written, and only these; and reads them back. The answer
-// is known from counts, before anything is written: a refusal writes nothing, the window included. A gap of 32 bits is never refused (7).
+// Expands the calls (five numbers each: kind, stamp, src, dst, count) one by one over the window, passing over those that are refused;
+// makes the table of their records; checks the rows written, and only these; and reads them back. The answer is known from lengths and
+// counts, before anything is written: a refusal writes nothing, the window included. A gap of 32 bits is never refused (7). The order is 8
+// and 10 of the list of calls, which is judged before any call is; 8 and 9 of the maker; 9 of read-back.
 pub fn round_trip(
     gap: u32,
     calls: &[u64],
@@ -45,17 +49,13 @@ pub fn round_trip(
         (now (table .exit)) (now («ops_back» .exit)) (now («calls_back» .exit))) ⌝ }
 {
     let wide = gap as u64;
-    let found = count(
+    let answer = legs::foretell(
         wide,
         calls,
         bytes.len(),
         stamps.len(),
         ops.len(),
         accesses.len(),
-    );
-    let answer = legs::decide(
-        found.ops,
-        found.calls,
         table.len(),
         ops_back.len(),
         calls_back.len(),
