@@ -1,17 +1,21 @@
 -- The examples hold, by computing. Assumes nothing.
 use mathlib.Core.Path.{refl}
+use Rattle.lists.specs.Lists.{kept}
 use Rattle.calls_in_turn.proofs.Computing as made
 use Rattle.chain.proofs.Computing as judged
 use Rattle.text.proofs.Computing as text
 use Rattle.callcheck_text.specs.Run.{linesFrom}
-use Rattle.callcheck_text.specs.Output.{checkedRows, verdictOf, endingText, outputOf}
+use Rattle.callcheck_text.specs.Output.{checkedRows, verdictOf, endingText, outputOf, rowLines}
 use Rattle.callcheck_text.specs.Examples.{Examples}
 
 pub examples : Examples
-unfolding made.computing judged.computing text.computing linesFrom checkedRows verdictOf endingText outputOf
+unfolding made.computing judged.computing text.computing linesFrom checkedRows verdictOf endingText outputOf rowLines kept
 examples =
     record {
       nine-bytes = refl;
+      nine-records = refl;
+      nine-rows = refl;
+      nine-live = refl;
       kinds = refl;
       no-call = refl;
       nothing = refl;

@@ -6,4 +6,5 @@ pub mod Prefix
 pub mod Examples
 pub mod Typed
 pub mod Passes
+pub mod LiveRows
 pub mod Nine

@@ -57,10 +57,10 @@ use Rattle.callcheck_text.proofs.Typed.{call-words}
 -- The calls of lines that are all accepted
 
 -- what lines that are not refused leave: the records of these calls, taken in turn
-record Tried (s : Setting) (l : Lent) (records : List ℕ) : Type 0 where
-  calls : List calls.Call
-  words : All Words calls
-  wrote : records ≡ acceptedOps s (triesOf s calls l)
+pub record Tried (s : Setting) (l : Lent) (records : List ℕ) : Type 0 where
+  pub calls : List calls.Call
+  pub words : All Words calls
+  pub wrote : records ≡ acceptedOps s (triesOf s calls l)
 
 not-done : (n line : ℕ) (records : List ℕ) → refused n line ≡ done records → ⊥
 not-done n line records e = let z : _≡_ {A = ℕ} 0 1 = cc in omega arith
@@ -80,7 +80,7 @@ goes-on a line written next records = go (eqb (a .number) 0) next
     go true (refused n line) e = absurd (not-done _ _ _ e)
     go false next e = absurd (not-done _ _ _ e)
 
-lines-tried : (s : Setting) (line : ℕ) (xs : List (List ℕ)) (l : Lent) (records : List ℕ) → linesFrom s line xs l ≡ done records → Tried s l records
+pub lines-tried : (s : Setting) (line : ℕ) (xs : List (List ℕ)) (l : Lent) (records : List ℕ) → linesFrom s line xs l ≡ done records → Tried s l records
 unfolding linesFrom triesOf flatMap
 lines-tried s line [] l records e = record { calls = []; words = tt; wrote = sym (ap endRecords e) }
 lines-tried s line (x ∷ xs) l records e =
@@ -108,7 +108,7 @@ lines-tried s line (x ∷ xs) l records e =
 -- The table of the accepted calls
 
 module _ (gap : ℕ) (g : gap < 2 ^ 32) (tries : List Try) (typed : All Typed tries) (short : length (acceptedOps (under gap) tries) ≤ OPS-ROOM) where
-  abbrev records : List ℕ
+  abbrev pub records : List ℕ
   records = acceptedOps (under gap) tries
 
   abbrev ops : List Op
@@ -120,7 +120,7 @@ module _ (gap : ℕ) (g : gap < 2 ^ 32) (tries : List Try) (typed : All Typed tr
   count : length records ≡ OP-WIDTH * length ops
   count = ap length (tries-wrote gap tries typed) ∙ flatMap-length OP-WIDTH opRecord ops (records-wide gap ops live)
 
-  abbrev rows : ℕ
+  abbrev pub rows : ℕ
   rows = rowCount (length ops)
 
   few : rows ≤ 32
@@ -128,24 +128,24 @@ module _ (gap : ℕ) (g : gap < 2 ^ 32) (tries : List Try) (typed : All Typed tr
       let n : length ops ≤ 2 ^ 5 = omega (arith, count) in
       row-count-le (length ops) 5 (omega arith) n (omega arith)
 
-  made : copyAnswer LIMIT records TABLE-ROOM ≡ Made rows
+  pub made : copyAnswer LIMIT records TABLE-ROOM ≡ Made rows
   made =
       let n : length ops ≤ LIMIT = omega (arith, count) in
       ap (λ (l : List ℕ). copyAnswer LIMIT l TABLE-ROOM) (tries-wrote gap tries typed)
       ∙ maker-answer gap LIMIT TABLE-ROOM ops live
       ∙ rw (le-ltb LIMIT (length ops) n, le-leb (COLUMNS * rows) TABLE-ROOM (omega (arith, few)))
 
-  abbrev table : List ℕ
+  abbrev pub table : List ℕ
   table = take (COLUMNS * rows) (copyAfter records (Made rows) (replicate TABLE-ROOM 0))
 
-  table-is : checkedRows records ≡ table
+  pub table-is : checkedRows records ≡ table
   unfolding checkedRows
   table-is = ap (λ (a : TableAnswer). take (COLUMNS * tableNumbers 8 a .value) (copyAfter records a (replicate TABLE-ROOM 0))) made
 
   table-passes : Passes gap table
   table-passes = demand3 .made gap g tries typed (replicate TABLE-ROOM 0) rows made .0
 
-  table-rows : length table / COLUMNS ≡ rows
+  pub table-rows : length table / COLUMNS ≡ rows
   table-rows =
       let n : length table ≡ COLUMNS * rows =
       length-take-le (COLUMNS * rows) (copyAfter records (Made rows) (replicate TABLE-ROOM 0))
@@ -159,11 +159,11 @@ module _ (gap : ℕ) (g : gap < 2 ^ 32) (tries : List Try) (typed : All Typed tr
       ∙ ap chainNumbers (demand3 .counts gap table table-passes)
       ∙ ap numbers.accepted table-rows
 
-  live-rows : length ops ≡ length records / OP-WIDTH
-  live-rows = omega (arith, count)
+  pub live-count : length ops ≡ length records / OP-WIDTH
+  live-count = omega (arith, count)
 
   pub verdict-line : verdictText (verdictOf gap records) ≡ passedText (rowCount (length records / OP-WIDTH))
-  verdict-line = ap verdictText verdict-is ∙ ap (λ (n : ℕ). passedText (rowCount n)) live-rows
+  verdict-line = ap verdictText verdict-is ∙ ap (λ (n : ℕ). passedText (rowCount n)) live-count
 
 pub verdict-passes : VerdictPasses
 unfolding endingText

@@ -7,7 +7,6 @@ use native.Mathlib.Omega.{arith}
 use borrow.Author.Tests.{ltb-true}
 use lib.Dec.{leb, ltb}
 use lib.ListN.{length}
-use Rattle.call.specs.Calls as calls
 use Rattle.call.specs.Calls.{callWith}
 use Rattle.call.specs.Cuts.{Words}
 use Rattle.call.specs.declared.Functionality.{Functionality}

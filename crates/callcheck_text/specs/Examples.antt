@@ -5,17 +5,43 @@ use mathlib.Core.List as list
 use Prim.Native.Nat.{ℕ}
 use Prim.Native.Char.{code}
 use Prim.Native.String.{String, [], _∷_}
-use Rattle.callcheck_text.specs.Output.{outputOf}
+use lib.ListN.{length, replicate}
+use Rattle.call.specs.Calls.{Op}
+use Rattle.call.specs.Ops.{opRecord}
+use Rattle.expansion.specs.Tries.{under}
+use Rattle.chain.specs.Chain.{tableRows}
+use Rattle.read_back.specs.ReadBack.{liveRows}
+use Rattle.text.specs.Lines.{lines}
+use Rattle.callcheck_text.specs.Run.{done, linesFrom}
+use Rattle.callcheck_text.specs.Output.{checkedRows, start, outputOf, rowLines}
 
 -- the bytes of a text in ASCII
 abbrev pub ascii : String → List ℕ
 ascii [] = list.[]
 ascii (c ∷ cs) = list._∷_ (code c) (ascii cs)
 
+-- the operation records of document 01's input: a Copy with stamp 4, of zero bytes
+abbrev pub copyOp : (src dst count width first end : ℕ) → Op
+copyOp src dst count width first end =
+    record {
+      call = record { kind = 0; stamp = 4; src = src; dst = dst; count = count };
+      piece = record { width = width; value = replicate 8 0 };
+      first = first;
+      end = end;
+    }
+
+abbrev pub nineRecords : List ℕ
+nineRecords = opRecord (copyOp 0 16 9 8 1 0) ++ opRecord (copyOp 8 24 1 1 0 1)
+
 pub record Examples : Type 0 where
   -- document 01's
   pub nine-bytes : outputOf (ascii "gap\t8\ncopy\t4\t0\t16\t9\n")
       ≡ ascii "row\t0\t4\t0\t16\t9\t8\t1\t0\tcopy\nrow\t1\t4\t8\t24\t1\t1\t0\t1\tcopy\npassed\t4\n"
+  -- its records, and the table made of them: four rows, and the lines of the live ones
+  pub nine-records : linesFrom (under 8) 2 (lines (ascii "copy\t4\t0\t16\t9\n")) start ≡ done nineRecords
+  pub nine-rows : length (tableRows (checkedRows nineRecords)) ≡ 4
+  pub nine-live : rowLines 0 (liveRows (tableRows (checkedRows nineRecords)))
+      ≡ ascii "row\t0\t4\t0\t16\t9\t8\t1\t0\tcopy\nrow\t1\t4\t8\t24\t1\t1\t0\t1\tcopy\n"
   -- every kind, an empty call, and a last newline that is missing
   pub kinds : outputOf (ascii "gap\t8\nset\t5\t0\t8\t9\nwrite\t6\t0\t3\t2\ncopy\t7\t5\t9\t0")
       ≡ ascii "row\t0\t5\t0\t8\t9\t8\t1\t0\tset\nrow\t1\t5\t8\t16\t1\t1\t0\t1\tset\n"

@@ -9,7 +9,7 @@ ghost use Prim.Native.Nat.{_≤_};
 ghost use lib.ListN.{length};
 ghost use Rattle.lists.specs.Lists.{store};
 ghost use Rattle.callcheck_text.specs.Run.{NineIsRows};
-ghost use Rattle.callcheck_text.specs.Output.{outputOf, PrefixDecides, VerdictPasses};
+ghost use Rattle.callcheck_text.specs.Output.{outputOf, PrefixDecides, VerdictPasses, LiveRowsPrinted};
 ghost use Rattle.callcheck_text.specs.Examples.{Examples};
 use print::put_calls;
 use text::NEWLINE;
@@ -46,10 +46,10 @@ pub fn answer(input: &[u8], out: &mut [u8; 8192]) -> usize
     put_calls(out, gap, tail(input, NEWLINE))
 }
 
-// What follows from the definition of the output is its contract: the first bytes decide, the verdict of accepted calls is `passed`, 9 is
-// for rows past 32, and inputs with their outputs.
+// What follows from the definition of the output is its contract: the first bytes decide, the verdict of accepted calls is `passed`, the
+// row lines are those of the live rows of the table made, 9 is for rows past 32, and inputs with their outputs.
 pub fn output_laws_hold() -> bool
-    ensures { λ r. ⌜ (r ≡ true) × PrefixDecides × VerdictPasses × NineIsRows × Examples ⌝ }
+    ensures { λ r. ⌜ (r ≡ true) × PrefixDecides × VerdictPasses × LiveRowsPrinted × NineIsRows × Examples ⌝ }
 {
     true
 }
