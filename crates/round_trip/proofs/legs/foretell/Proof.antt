@@ -1,5 +1,6 @@
 -- `round_trip::legs::foretell` meets its contract: the tests in the definition's order. Assumes nothing.
-use mathlib.Core.Path.{_≡_, ap₂, _∙_}
+use mathlib.Core.Path.{ap₂, _∙_}
+use mathlib.Core.List.{List}
 use Prim.Native.Nat.{ℕ, _%_, _≤_, _<_}
 use native.Mathlib.Omega.{arith}
 use borrow.Author.Needs.{needs}
@@ -21,24 +22,25 @@ returns c =
     rw (lt-ltb LIMIT _ many)
 
 -- there are not too many
-few : (c : tie.Else1) → recordCount HANDED-WIDTH (now (c .before .before .before .args .calls)) ≤ LIMIT
+abbrev calls-of : tie.Else1 → List ℕ
+calls-of c = now (c .before .before .before .args .calls)
+
+few : (c : tie.Else1) → recordCount HANDED-WIDTH (calls-of c) ≤ LIMIT
 few c = omega (arith, c .before .record-count .ensures)
 
 returns-2 : tie.Need-returns-2
 unfolding foretold
 returns-2 c =
-    let start = c .before .before .before .before in
-    let a = start .args in
-    rw (le-ltb LIMIT _ (few (c .before)), ne-eqb (length (now (a .calls)) % HANDED-WIDTH) 0 (λ e. omega arith))
+    let at = c .before in
+    rw (le-ltb LIMIT _ (few at), ne-eqb (length (calls-of at) % HANDED-WIDTH) 0 (λ e. omega arith))
 
 returns-3 : tie.Need-returns-3
 unfolding foretold
 returns-3 c =
     let counted = c .before in
-    let whole = counted .before in
-    let start = whole .before .before .before .before in
-    let a = start .args in
-    rw (le-ltb LIMIT _ (few (whole .before)), eq-eqb (length (now (a .calls)) % HANDED-WIDTH) 0 (omega arith))
+    let at = counted .before .before in
+    let a = at .before .before .before .args in
+    rw (le-ltb LIMIT _ (few at), eq-eqb (length (calls-of at) % HANDED-WIDTH) 0 (omega arith))
     (c .decide .ensures
     ∙ ap₂ (λ (n m : ℕ). decided n m (a .table-room) (a .ops-room) (a .calls-room)) (counted .count .ensures .0) (counted .count .ensures .1 .0))
 
