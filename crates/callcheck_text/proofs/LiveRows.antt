@@ -98,20 +98,20 @@ module _ (gap : ℕ) (g : gap < 2 ^ 32) (tries : List Try) (typed : All Typed tr
       ap (take (length (liveRows rowsMade))) (whole .last) ∙ take-at (liveRows rowsMade) (whole .others) (length (liveRows rowsMade)) refl
 
 pub live-rows-printed : LiveRowsPrinted
-live-rows-printed input records gap e g d =
-    let h = lines-tried (under gap) 2 (lines (after 10 input)) start records d in
+live-rows-printed input ops gap e g d =
+    let h = lines-tried (under gap) 2 (lines (after 10 input)) start ops d in
     let tries = triesOf (under gap) (h .calls) start in
     let typed = tries-typed (under gap) (h .calls) start (h .words) (below-same 8 1024 0 (omega arith)) in
     let short = records-fit (under gap) (h .calls) start in
-    let printed : rowsText 0 (length records / OP-WIDTH) records ++ passedText (rowCount (length records / OP-WIDTH))
-    ≡ rowLines 0 (liveRows (tableRows (checkedRows records))) ++ passedText (length (tableRows (checkedRows records))) =
+    let printed : rowsText 0 (length ops / OP-WIDTH) ops ++ passedText (rowCount (length ops / OP-WIDTH))
+    ≡ rowLines 0 (liveRows (tableRows (checkedRows ops))) ++ passedText (length (tableRows (checkedRows ops))) =
     subst
     (λ (l : List ℕ). rowsText 0 (length l / OP-WIDTH) l ++ passedText (rowCount (length l / OP-WIDTH))
     ≡ rowLines 0 (liveRows (tableRows (checkedRows l))) ++ passedText (length (tableRows (checkedRows l))))
     (sym (h .wrote))
     (ap₂ (λ (x : List ℕ) (m : ℕ). x ++ passedText m) (live-lines gap g tries typed short) (rows-many gap g tries typed short)) in
     record {
-      output = verdict-passes input records gap e g d ∙ printed;
+      output = verdict-passes input ops gap e g d ∙ printed;
       in-front =
           subst (λ (l : List ℕ). let rows = tableRows (checkedRows l) in take (length (liveRows rows)) rows ≡ liveRows rows) (sym (h .wrote))
           (live-front gap g tries typed short);

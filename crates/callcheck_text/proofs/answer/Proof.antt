@@ -38,7 +38,7 @@ gap-too-large c =
     let at-gap = at-value .before .before in
     all-written (wrote (line .0 .0) (line .1))
     (wide-gap _ _ (read-gap (at-gap .before .head .ensures) (at-gap .parse-gap .ensures) (at-value .first .given .1))
-    (at-if1 .if1 .taken))
+    (omega (arith, at-if1 .if1 .taken)))
     (omega arith)
 
 call-lines : tie.Need-returns-3
