@@ -112,17 +112,17 @@ module _ (s : Setting) (c : Call) (n : Lengths) where
       let p = fair-passes f in
       let room : bufferShort (opCount c) (accessCount c) n ≡ false =
       rw (le-ltb (n .ops) (OP-WIDTH * opCount c) (r .ops)) (le-ltb _ _ (r .accesses)) in
-      given-of (refusals s c n) (accepted (opCount c)) (p .0, (p .1, (p .2, (p .3, (p .4, (p .5, (room, tt)))))))
+      given-of (refusals s c n) (accepted (opCount c)) (search (p, room))
 
   -- and what an answer of number 0 says
   pub accepted-fair : answerBy s c n .number ≡ 0 → Fair s c n × Room c n
   unfolding answerBy refusals
   accepted-fair e =
       let h = none-of (refusals s c n) (accepted (opCount c)) (refl, (refl, (refl, (refl, (refl, (refl, (refl, tt))))))) e in
-      let room = neither (ltb (n .ops) (OP-WIDTH * opCount c)) (ltb (n .accesses) (ACCESS-WIDTH * accessCount c)) (h .1 .1 .1 .1 .1 .1 .0) in (
-        passes-fair (h .0, h .1 .0, h .1 .1 .0, h .1 .1 .1 .0, h .1 .1 .1 .1 .0, h .1 .1 .1 .1 .1 .0),
-        record { ops = ltb-false (n .ops) _ (room .0); accesses = ltb-false (n .accesses) _ (room .1) },
-      )
+      let passes : Passes s c n = search h in
+      let short : bufferShort (opCount c) (accessCount c) n ≡ false = search h in
+      let room = neither (ltb (n .ops) (OP-WIDTH * opCount c)) (ltb (n .accesses) (ACCESS-WIDTH * accessCount c)) short in
+      (passes-fair passes, record { ops = ltb-false (n .ops) _ (room .0); accesses = ltb-false (n .accesses) _ (room .1) })
 
 -- Counts and sums that fit, with a count of 0 too
 

@@ -3,7 +3,7 @@ use mathlib.Core.Path.{_≡_, refl, sym, ap, _∙_}
 use mathlib.Core.Logic.{_⊎_, inl, inr}
 use mathlib.Core.Bool.{Bool, true, false}
 use mathlib.Core.List.{[], _∷_, flatMap}
-use Prim.Native.Nat.{ℕ, _*_, _≤_}
+use Prim.Native.Nat.{_*_, _≤_, _<_}
 use native.Mathlib.Omega.{arith}
 use denote.Enum.Declared.{tagOf}
 use types.Run.{OneOf, miss}
@@ -28,6 +28,7 @@ use Rattle.expansion.specs.declared.ExpansionAnswer.the-variants.{Expand
 use Rattle.expansion.specs.declared.ExpansionAnswer.the-variants.{OutsideWindow, BufferShort}
 use Rattle.expansion.proofs.ExpansionAnswer.{the-type}
 use Rattle.expansion.proofs.Judged.{Fair, Room, accepted-fair, fair-accepted}
+use Rattle.expansion.proofs.Cut.{op-count-pos}
 
 pub record Refused (s : Setting) (t : Try) : Type 0 where
   pub number : eqb (answered s t .number) 0 ≡ false
@@ -114,8 +115,20 @@ module _ (s : Setting) (t : Try) (a : ExpansionAnswer) (e : expansionNumbers a �
   pub refused-as : Refusing a → Refused s t
   refused-as k = refused-try s t (ap (λ (x : Answer). eqb (x .number) 0) same-answer ∙ refusing-number a k)
 
-  pub taken-as : (ops accesses : ℕ) → a ≡ Expanded ops accesses → Taken s t × (ops ≡ opCount (t .call))
-  taken-as ops accesses q =
-      let told : answered s t ≡ accepted ops = same-answer ∙ ap (λ (x : ExpansionAnswer). expansionNumbers x .answer) q in
-      let k = taken-try s t (ap (λ (x : Answer). eqb (x .number) 0) told) in
-      (k, ap (λ (x : Answer). x .value) (sym told ∙ k .answer))
+  value : answered s t .value ≡ expansionNumbers a .answer .value
+  value = ap (λ (x : Answer). x .value) same-answer
+
+  -- by the number of its records, of which a refusal has none
+  pub taken-by : 0 < expansionNumbers a .answer .value → Taken s t × (expansionNumbers a .answer .value ≡ opCount (t .call))
+  taken-by some = go (outcome s t)
+    where
+      go : Refused s t ⊎ Taken s t → Taken s t × (expansionNumbers a .answer .value ≡ opCount (t .call))
+      go (inl r) = absurd (omega (arith, some, r .none, value))
+      go (inr k) = (k, sym value ∙ ap (λ (x : Answer). x .value) (k .answer))
+
+  pub refused-by : expansionNumbers a .answer .value ≡ 0 → Refused s t
+  refused-by none = go (outcome s t)
+    where
+      go : Refused s t ⊎ Taken s t → Refused s t
+      go (inl r) = r
+      go (inr k) = absurd (omega (arith, none, value, ap (λ (x : Answer). x .value) (k .answer), op-count-pos (t .call)))

@@ -13,6 +13,7 @@ ghost use Rattle.expansion.specs.Refusals.{opCount, accessCount, expansi
 ghost use Rattle.expansion.specs.Expansion.{emptyOp, expanded, Done};
 use crate::ExpansionAnswer;
 use crate::judge::expansion_answer;
+use crate::records_in;
 use call::CopyCall;
 use call::OP_WIDTH;
 use expansion_rows::held::write_pass;
@@ -99,10 +100,9 @@ pub fn expand(
         ops.len(),
         accesses.len(),
     );
-    if let ExpansionAnswer::Expanded {
-        ops: rows,
-        accesses: _,
-    } = answer {
+    // An accepted call has a record at least, and a refusal none.
+    let rows = records_in(answer);
+    if 0 < rows {
         move_call(call, rows, bytes, stamps, ops, accesses);
     }
     answer

@@ -1,14 +1,14 @@
--- `expansion::expand::expand` meets its contract. Where the answer is Expanded, what it says of the call is what `move_call` requires; any
--- other answer leaves the four slices as they were. Assumes nothing.
+-- `expansion::expand::expand` meets its contract. Where the answer has a record, what it says of the call is what `move_call` requires; an
+-- answer without leaves the four slices as they were. Assumes nothing.
 use borrow.Author.Needs.{needs}
-use mathlib.Core.Path.{sym, ap, _∙_}
+use mathlib.Core.Path.{_≡_, sym, _∙_}
 use Prim.Native.Nat.{_^_, _<_}
 use native.Mathlib.Omega.{arith}
 use denote.Ref.{now}
 use Rattle.call.specs.Calls.{callOf}
 use Rattle.expansion.specs.Tries.{Setting, setting, lent, Try, tryOf}
-use Rattle.expansion.specs.Refusals.{expansionNumbers}
-use Rattle.expansion.proofs.Outcome.{taken-as, refused-as}
+use Rattle.expansion.specs.Refusals.{opCount}
+use Rattle.expansion.proofs.Outcome.{Taken, taken-by, refused-by}
 use Rattle.expansion.proofs.Moved.{fair-inside}
 use Rattle.expansion.proofs.expand.expand.Statement.{statement}
 use Rattle.expansion.proofs.expand.expand.Tie as tie
@@ -33,10 +33,10 @@ start-of c =
     let known = c .before .before .before in
     known .before .before
 
-abbrev told-of : tie.After-move-call-arg4 → tie.After-answer
+abbrev told-of : tie.After-move-call-arg4 → tie.Then1
 told-of c =
     let lent-first = c .before .before .before in
-    lent-first .before .before
+    lent-first .before
 
 abbrev moved-of : tie.After-slice-known8 → tie.After-move-call
 moved-of c =
@@ -44,13 +44,22 @@ moved-of c =
     let bytes-known = ops-back .before .before .before in
     bytes-known .before .before
 
+-- an answer with a record is taken, and the records are those of the call
+taken-at : (c : tie.Then1) → let start = start-of (c .before .before) in
+    Taken (s-of start) (t-of start) × (c .before .records-in .result ≡ opCount (callOf (start .args .call)))
+taken-at c =
+    let counted = c .before .records-in .ensures in
+    let answer = c .before .before .expansion-answer in
+    let start = start-of (c .before .before) in
+    let k = taken-by (s-of start) (t-of start) (answer .result) (answer .ensures) (omega (arith, counted, c .if1 .taken)) in
+    (k .0, counted ∙ k .1)
+
 move-call-requires : tie.Need-move-call-requires
 move-call-requires c κs =
     let told = told-of c in
-    let asked = told .before .before in
-    let start = start-of asked in
+    let start = start-of (told .before .before) in
     let small : start .args .limit < 2 ^ 64 = omega (arith, start .pre) in
-    let k = taken-as (s-of start) (t-of start) _ (asked .expansion-answer .ensures) _ _ (told .answer .given .1) in (
+    let k = taken-at told in (
       fair-inside _ _ _ (k .0 .fair) small (stamp-fits start) (dst-fits start),
       sym (k .0 .fair .window),
       k .1,
@@ -62,29 +71,21 @@ returns : tie.Need-returns
 returns c =
     let moved = moved-of c in
     let told = told-of (moved .before) in
-    let asked = told .before .before in
-    let start = start-of asked in
-    let same = told .answer .given .1 in
-    let k = taken-as (s-of start) (t-of start) _ (asked .expansion-answer .ensures) _ _ same in
-    record {
-      answer = ap expansionNumbers (sym same) ∙ asked .expansion-answer .ensures;
-      slices = moved .move-call .ensures ∙ sym (k .0 .after);
-    }
+    record { answer = told .before .before .expansion-answer .ensures; slices = moved .move-call .ensures ∙ sym (taken-at told .0 .after) }
 
 returns-2 : tie.Need-returns-2
 returns-2 c =
-    let answer = c .before .expansion-answer in
-    let start = start-of (c .before) in
-    record {
-      answer = answer .ensures;
-      slices = sym (refused-as (s-of start) (t-of start) (answer .result) (answer .ensures) (c .match .keys2) .kept);
-    }
+    let asked = c .before .before in
+    let answer = asked .expansion-answer in
+    let start = start-of asked in
+    let none = refused-by (s-of start) (t-of start) (answer .result) (answer .ensures) (omega (arith, c .before .records-in .ensures, c .if1 .left)) in
+    record { answer = answer .ensures; slices = sym (none .kept) }
 
 pub expand-spec : {M : Type 1} → statement M
 expand-spec =
     tie.close
     (tie.spec
-    (λ c κs. search needs) (λ c. search needs)
+    (λ c κs. search needs) (λ c κs. search needs)
     move-call-requires
     (λ c. search needs) (λ c. search needs) (λ c. search needs) (λ c. search needs)
     returns
