@@ -27,32 +27,38 @@ impl Parameter {
     }
 }
 
-/// Every exported function and its parameters, in order; and last the program
-/// `callcheck`, whose input and output are bytes.
+/// A function's name, its parameters in order, and the numbers with which it refuses.
+pub type Function = (&'static str, &'static [Parameter], &'static [u64]);
+
+/// Every exported function, with the refusals that docs/CALLING.md lists; and last the
+/// program `callcheck`, whose input and output are bytes.
 #[rustfmt::skip]
-pub const FUNCTIONS: &[(&str, &[Parameter])] = &[
-    ("field_add", &[Number, Number]),
-    ("field_sub", &[Number, Number]),
-    ("field_mul", &[Number, Number]),
-    ("copy_residue", &[Number, Slice, Number]),
-    ("memw_residue", &[Slice, Number]),
-    ("memw_aligned_residue", &[Slice, Number]),
-    ("memw_register_residue", &[Slice, Number]),
-    ("add_pair", &[Slice, Slice, Slice, Slice, Slice, LentArray(3)]),
-    ("generate_copy_trace", &[Slice, Lent]),
-    ("generate_memw_trace", &[Slice, Lent]),
-    ("generate_memw_aligned_trace", &[Slice, Lent]),
-    ("generate_memw_register_trace", &[Slice, Lent]),
-    ("route_accesses", &[Slice, Lent, Lent, Lent, LentArray(3)]),
+pub const FUNCTIONS: &[Function] = &[
+    ("field_add", &[Number, Number], &[14]),
+    ("field_sub", &[Number, Number], &[14]),
+    ("field_mul", &[Number, Number], &[14]),
+    ("copy_residue", &[Number, Slice, Number], &[7, 12, 13, 14]),
+    ("memw_residue", &[Slice, Number], &[12, 13, 14]),
+    ("memw_aligned_residue", &[Slice, Number], &[12, 13, 14]),
+    ("memw_register_residue", &[Slice, Number], &[12, 13, 14]),
+    ("add_pair", &[Slice, Slice, Slice, Slice, Slice, LentArray(3)], &[10, 12, 13, 14]),
+    ("generate_copy_trace", &[Slice, Lent], &[8, 9, 10]),
+    ("generate_memw_trace", &[Slice, Lent], &[8, 9, 10]),
+    ("generate_memw_aligned_trace", &[Slice, Lent], &[8, 9, 10]),
+    ("generate_memw_register_trace", &[Slice, Lent], &[8, 9, 10]),
+    ("route_accesses", &[Slice, Lent, Lent, Lent, LentArray(3)], &[8, 9, 10, 11]),
     ("push_reg_access",
-        &[Number, Word, Word, Word, Word, Number, Number, Number, LentArray(29)]),
-    ("new_register_state", &[Number, Number, LentArray(68)]),
+        &[Number, Word, Word, Word, Word, Number, Number, Number, LentArray(29)], &[10, 11]),
+    ("new_register_state", &[Number, Number, LentArray(68)], &[]),
     ("collect_copy_register_ops",
-        &[Number, Number, Number, Number, Number, LentArray(68), LentArray(116)]),
+        &[Number, Number, Number, Number, Number, LentArray(68), LentArray(116)],
+        &[4, 5, 6, 10]),
     ("collect_copy_ops",
         &[Number, Number, Number, Number, Number, Number, LentBytes, Lent, Lent, Lent,
-          LentArray(2)]),
-    ("chain_check", &[Number, Slice]),
-    ("read_back", &[Number, Slice, Lent, Lent, LentArray(2)]),
-    ("callcheck", &[Bytes]),
+          LentArray(2)],
+        &[1, 2, 3, 5, 7, 8, 9, 10]),
+    ("chain_check", &[Number, Slice], &[7, 13, 14, 15, 16, 17, 18]),
+    ("read_back", &[Number, Slice, Lent, Lent, LentArray(2)],
+        &[7, 9, 13, 14, 15, 16, 17, 18]),
+    ("callcheck", &[Bytes], &[1, 2, 3, 5, 7, 9, 10]),
 ];

@@ -1,5 +1,5 @@
-//! Inputs of the program `callcheck` that are always recorded: the examples, and the
-//! longest whose last bytes decide.
+//! Inputs of the program `callcheck` that are always asked: the examples, the longest
+//! whose last bytes decide, and one for each refusal.
 
 use crate::oracle;
 use std::collections::BTreeSet;
@@ -60,6 +60,21 @@ fn longest() -> [String; 3] {
     let too_many = format!("{accepted}{call}\nx\n");
     let too_long = format!("{accepted}{call}0\n");
     [accepted, too_many, too_long]
+}
+
+/// An input for each refusal that `callcheck` can print: 7, 10, 1, 3, 5, 2, 9.
+pub fn refused() -> [Vec<u8>; 7] {
+    let one_row_each = format!("gap\t8\n{}", "copy\t4\t0\t0\t0\n".repeat(33));
+    [
+        "gap\t4294967296\n",
+        "gap\t8\ncopy\t4\t0\t16\n",
+        "gap\t8\ncopy\t18446744073709551615\t0\t16\t9\n",
+        "gap\t8\nset\t4\t0\t16\t9\n",
+        "gap\t8\nwrite\t4\t0\t4294967295\t1\n",
+        "gap\t8\ncopy\t4\t0\t1020\t9\n",
+        &one_row_each,
+    ]
+    .map(|input| input.as_bytes().to_vec())
 }
 
 fn text(error: std::io::Error) -> String {

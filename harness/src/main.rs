@@ -2,6 +2,7 @@
 
 mod bench;
 mod compare;
+mod coverage;
 mod examples;
 mod exported;
 mod functions;
@@ -28,7 +29,8 @@ harness selftest SEED COUNT           hold the oracle against itself
 harness callcheck                     document 01's program, by the oracle
 harness compare SEED SECONDS [KIND..] hold the proved code against the oracle
 harness bench [KIND..]                time ratios of the proved code to Rust
-harness examples                      compile and run the worked examples in C and Rust
+harness examples                      compile and run the examples, and call the header's functions from C
+harness coverage [COVERAGE EDITS]     hold the pages of docs/ against the tree
 harness replay DIR SEED               write the files of the replay programs in DIR";
 
 fn main() -> ExitCode {
@@ -41,6 +43,7 @@ fn main() -> ExitCode {
         ["callcheck"] => callcheck(),
         ["bench", ref kinds @ ..] => bench::run(kinds),
         ["examples"] => examples::run(),
+        ["coverage", ref pages @ ..] => coverage::run(pages),
         ["replay", crates, seed] => replay(crates, seed),
         ["compare", seed, seconds, ref kinds @ ..] => compare(seed, seconds, kinds),
         _ => Err(USAGE.into()),

@@ -63,6 +63,15 @@ impl Question {
         size(&self.arguments)
     }
 
+    /// The lists that the function can write, or those that it cannot.
+    pub fn lists(&self, lent: bool) -> impl Iterator<Item = &Vec<u64>> {
+        let pairs = self.parameters().iter().zip(&self.arguments);
+        pairs.filter_map(move |pair| match pair {
+            (parameter, Argument::List(list)) if parameter.is_lent() == lent => Some(list),
+            _ => None,
+        })
+    }
+
     /// Whether each argument is what its parameter takes.
     fn fits(&self) -> bool {
         let parameters = self.parameters();
@@ -104,15 +113,30 @@ impl Question {
 }
 
 impl Reply {
-    /// A program's output, as if lent; the value is its length.
-    pub fn of_output(output: &[u8]) -> Self {
+    /// A program's output, as if lent; the value is its length, the number its exit
+    /// status.
+    pub fn of_output(status: u64, output: &[u8]) -> Self {
         let answer = Answer {
-            number: 0,
+            number: status,
             place: 0,
             value: output.len() as u64,
         };
         let lent = vec![output.iter().copied().map(u64::from).collect()];
         Self { answer, lent }
+    }
+
+    /// What the last line of a program's output says: 0 and the rows of the table that
+    /// passed, or a refusal's number and its line.
+    pub fn verdict(&self) -> [u64; 2] {
+        let output = &self.lent[0];
+        let text: String = output.iter().map(|&byte| char::from(byte as u8)).collect();
+        let fields: Vec<&str> = text.lines().last().unwrap_or("").split('\t').collect();
+        let number = |field: &str| field.parse().expect("a number");
+        match fields[..] {
+            ["refused", refusal, line] => [number(refusal), number(line)],
+            ["passed", rows] => [0, number(rows)],
+            _ => panic!("no output of callcheck: {text}"),
+        }
     }
 
     pub fn line(&self) -> String {
@@ -149,7 +173,7 @@ pub fn written(arguments: &[Argument]) -> String {
 }
 
 fn function_named(name: &str) -> Option<usize> {
-    FUNCTIONS.iter().position(|(known, _)| *known == name)
+    FUNCTIONS.iter().position(|(known, ..)| *known == name)
 }
 
 fn fits((parameter, argument): (&Parameter, &Argument)) -> bool {
@@ -190,5 +214,5 @@ fn push_list(line: &mut String, list: &[u64]) {
 /// The oracle's output for the program's input.
 fn reply_program(input: &[u64]) -> Reply {
     let input: Vec<u8> = input.iter().map(|&byte| byte as u8).collect();
-    Reply::of_output(&oracle::callcheck(&input))
+    Reply::of_output(0, &oracle::callcheck(&input))
 }

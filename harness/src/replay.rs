@@ -5,6 +5,7 @@
 //! then each lent slice afterwards as its length and its numbers, one number to a line.
 
 use crate::generate::Generator;
+use crate::generate::programs::question_of;
 use crate::inputs;
 use crate::oracle::PRIME;
 use crate::protocol::{self, Argument, Question, Reply};
@@ -229,7 +230,11 @@ impl Part {
 fn class(question: &Question, reply: &Reply) -> [u64; 2] {
     let answer = reply.answer;
     match (question.name(), answer.number) {
-        ("callcheck", _) => return output_class(&reply.lent[0]),
+        // A refusal's line counts as far as it tells lines apart.
+        ("callcheck", _) => {
+            let [number, place] = reply.verdict();
+            return [number, if number == 0 { place } else { place.min(4) }];
+        }
         (_, 0) => {}
         ("chain_check", 16) => return [16, answer.value],
         ("read_back", 16) => return [16, 0],
@@ -247,19 +252,6 @@ fn class(question: &Question, reply: &Reply) -> [u64; 2] {
         _ => 0,
     };
     [0, chosen]
-}
-
-/// The last line of `callcheck`'s output: a refusal's number and its line, as far as it
-/// tells lines apart, or 0 and the rows of the table that passed.
-fn output_class(output: &[u64]) -> [u64; 2] {
-    let text: String = output.iter().map(|&byte| char::from(byte as u8)).collect();
-    let fields: Vec<&str> = text.lines().last().unwrap_or("").split('\t').collect();
-    let number = |field: &str| field.parse().expect("a number");
-    match fields[..] {
-        ["refused", refusal, line] => [number(refusal), number(line).min(4)],
-        ["passed", rows] => [0, number(rows)],
-        _ => panic!("no output of callcheck: {text}"),
-    }
 }
 
 fn number(argument: &Argument) -> Option<u64> {
@@ -282,12 +274,8 @@ fn fixed(name: &str) -> Result<Vec<Question>, String> {
     if name.starts_with("field_") {
         return Ok(edges(name));
     }
-    let question = |input: Vec<u8>| {
-        let bytes: Vec<u64> = input.into_iter().map(u64::from).collect();
-        Question::new(name, vec![bytes.into()])
-    };
     match name {
-        "callcheck" => Ok(inputs::recorded()?.into_iter().map(question).collect()),
+        "callcheck" => Ok(inputs::recorded()?.into_iter().map(question_of).collect()),
         _ => Ok(Vec::new()),
     }
 }

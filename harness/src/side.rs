@@ -5,6 +5,7 @@ use crate::functions::Parameter;
 use crate::oracle::Answer;
 use crate::protocol::{Argument, Question, Reply};
 use crate::{exported, oracle};
+use std::hint::black_box;
 
 type Residue = fn(&[u64], u64) -> Answer;
 type Maker = fn(&[u64], &mut [u64]) -> Answer;
@@ -58,12 +59,23 @@ pub const EXPORTED: Side = side!(exported);
 impl Side {
     /// The reply of this side; `callcheck` is no exported function.
     pub fn reply(&self, question: &Question) -> Reply {
-        let Parted {
-            numbers: n,
-            slices: s,
-            mut lent,
-        } = Parted::of(question);
-        let answer = match question.name() {
+        self.reply_and_inputs(question).0
+    }
+
+    /// The reply, and every slice that is not lent as it is after the call.
+    pub fn reply_and_inputs(&self, question: &Question) -> (Reply, Vec<Vec<u64>>) {
+        let mut parted = Parted::of(question);
+        let answer = self.answer(question, &mut parted);
+        // What foreign code might have written through a shared slice is read anew.
+        let Parted { slices, lent, .. } = black_box(parted);
+        (Reply { answer, lent }, slices)
+    }
+
+    fn answer(&self, question: &Question, parted: &mut Parted) -> Answer {
+        let n = &parted.numbers;
+        let s: Vec<&[u64]> = parted.slices.iter().map(Vec::as_slice).collect();
+        let lent = &mut parted.lent;
+        match question.name() {
             "field_add" => (self.field_add)(n[0], n[1]),
             "field_sub" => (self.field_sub)(n[0], n[1]),
             "field_mul" => (self.field_mul)(n[0], n[1]),
@@ -75,9 +87,8 @@ impl Side {
             "chain_check" => (self.chain_check)(n[0], s[0]),
             "new_register_state" => (self.new_register_state)(n[0], n[1], array(&mut lent[0])),
             name if name.starts_with("generate_") => self.table(name, s[0], &mut lent[0]),
-            name => self.lent(name, &n, &s, &mut lent),
-        };
-        Reply { answer, lent }
+            name => self.lent(name, n, &s, lent),
+        }
     }
 
     fn table(&self, name: &str, list: &[u64], table: &mut [u64]) -> Answer {
@@ -131,16 +142,17 @@ impl Side {
     }
 }
 
-/// The arguments of a question, parted by use. Every lent list is a copy with memory
-/// of its own and of its own length, so that valgrind sees a step past its end.
-struct Parted<'a> {
+/// The arguments of a question, parted by use. Every list is a copy with memory of its
+/// own and of its own length, so that valgrind sees a step past its end, and so that the
+/// question still says what the lists were.
+struct Parted {
     numbers: Vec<u64>,
-    slices: Vec<&'a [u64]>,
+    slices: Vec<Vec<u64>>,
     lent: Vec<Vec<u64>>,
 }
 
-impl<'a> Parted<'a> {
-    fn of(question: &'a Question) -> Self {
+impl Parted {
+    fn of(question: &Question) -> Self {
         let mut parted = Self {
             numbers: vec![],
             slices: vec![],
@@ -152,11 +164,11 @@ impl<'a> Parted<'a> {
         parted
     }
 
-    fn add(&mut self, parameter: Parameter, argument: &'a Argument) {
+    fn add(&mut self, parameter: Parameter, argument: &Argument) {
         match argument {
             Argument::Number(number) => self.numbers.push(*number),
             Argument::List(list) if parameter.is_lent() => self.lent.push(list.clone()),
-            Argument::List(list) => self.slices.push(list),
+            Argument::List(list) => self.slices.push(list.clone()),
         }
     }
 }

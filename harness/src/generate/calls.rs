@@ -16,6 +16,11 @@ fn count(rng: &mut Rng) -> u64 {
 /// Any call; a Set mostly keeps the gap (modulo 2^64).
 pub fn call(rng: &mut Rng, gap: u64) -> Call {
     let [kind, count] = [rng.below(3), count(rng)];
+    call_of(rng, gap, kind, count)
+}
+
+/// Any call of this kind and count.
+fn call_of(rng: &mut Rng, gap: u64, kind: u64, count: u64) -> Call {
     // The last places of memory, where a call just stays below 2^64 or does not.
     let top = 0u64.wrapping_sub(count).wrapping_sub(rng.below(20));
     let place = |rng: &mut Rng| if rng.once_in(4) { top } else { edge(rng) };
@@ -64,6 +69,27 @@ pub fn cut_call(rng: &mut Rng, gap: u64) -> CutCall {
         let call = call(rng, gap);
         if is_sound(gap, &call) {
             return cut(rng, call);
+        }
+    }
+}
+
+/// A sound call of so many rows, at least one, cut at random; one row may be an empty
+/// call's.
+pub fn call_of_rows(rng: &mut Rng, gap: u64, rows: usize) -> CutCall {
+    let pieces = rng.many(rows, |rng| {
+        let width = rng.pick(&[1, 8, 8]);
+        piece(rng, width)
+    });
+    let empty = rows == 1 && rng.once_in(3);
+    let count = match empty {
+        true => 0,
+        false => pieces.iter().map(|piece| piece.width).sum(),
+    };
+    loop {
+        let kind = rng.below(3);
+        let call = call_of(rng, gap, kind, count);
+        if is_sound(gap, &call) {
+            return CutCall { call, pieces };
         }
     }
 }

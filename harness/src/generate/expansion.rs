@@ -1,6 +1,7 @@
 //! Calls expanded in turn over one window: overlaps both ways, gaps around a row's
 //! width, places near the window's end, and every combination of refusals.
 
+use super::long::{Shape, log_scaled};
 use super::numbers::{bad_gap, edge, gap, junk};
 use crate::oracle::LIST_LIMIT;
 use crate::protocol::{Argument, Question, Reply};
@@ -23,6 +24,8 @@ struct Draft {
     gap: u64,
     /// Numbers short of the result, of the operation and the access buffer.
     short: [usize; 2],
+    /// Buffers are made for no more bytes than this; a call of more is refused by 2.
+    most: u64,
 }
 
 impl Window {
@@ -32,7 +35,8 @@ impl Window {
         if self.bytes.is_empty() || rng.once_in(if large { 5 } else { 50 }) {
             self.renew(rng);
         }
-        let mut draft = self.draft(rng);
+        let count = rng.below(71);
+        let mut draft = self.draft(rng, count);
         let refusals = refusals(rng);
         let mut window = [self.bytes.clone(), self.stamps.clone()];
         for (bit, number) in [7, 8, 1, 3, 5, 2, 9].into_iter().enumerate() {
@@ -40,6 +44,45 @@ impl Window {
                 draft.cause(rng, number, &mut window);
             }
         }
+        self.ask(rng, draft, window)
+    }
+
+    /// The same over a new window of so many cells, or over the last one, with counts up
+    /// to the whole window. By its shape the question meets one refusal, or none.
+    pub fn asked_long(
+        &mut self,
+        rng: &mut Rng,
+        shape: Shape,
+        cells: Option<usize>,
+    ) -> (Question, Reply) {
+        if let Some(cells) = cells {
+            self.fill(rng, cells);
+        }
+        let cells = self.bytes.len();
+        let count = match rng.bit() {
+            0 => cells,
+            _ => log_scaled(rng, cells),
+        };
+        let mut draft = self.draft(rng, count as u64);
+        draft.most = cells as u64;
+        if shape == Shape::Good && cells == LIST_LIMIT {
+            draft.take_all(cells as u64);
+        }
+        let mut window = [self.bytes.clone(), self.stamps.clone()];
+        match shape {
+            Shape::Good => {}
+            Shape::Bad => {
+                let number = rng.pick(&[7, 1, 3, 5, 2]);
+                draft.cause(rng, number, &mut window);
+            }
+            Shape::Cut => window[rng.place(2)].push(0),
+            Shape::Short => draft.cause(rng, 9, &mut window),
+        }
+        self.ask(rng, draft, window)
+    }
+
+    /// Asks, and goes on from the reply.
+    fn ask(&mut self, rng: &mut Rng, draft: Draft, window: [Vec<u64>; 2]) -> (Question, Reply) {
         let question = draft.question(rng, window);
         let reply = question.reply();
         if reply.answer.number == 0 {
@@ -55,15 +98,20 @@ impl Window {
             1 => rng.place(9),
             _ => 20 + rng.place(140),
         };
+        self.fill(rng, cells);
+    }
+
+    /// A new window of so many cells.
+    fn fill(&mut self, rng: &mut Rng, cells: usize) {
         self.bytes = rng.many(cells, |rng| rng.below(256));
         let common = edge(rng);
         self.stamps = rng.many(cells, |rng| if rng.once_in(3) { edge(rng) } else { common });
     }
 
-    /// A call that the window mostly takes.
-    fn draft(&self, rng: &mut Rng) -> Draft {
+    /// A call of this count, or less, that the window mostly takes.
+    fn draft(&self, rng: &mut Rng, count: u64) -> Draft {
         let cells = self.bytes.len() as u64;
-        let count = rng.below(71).min(cells);
+        let count = count.min(cells);
         let gap = gap(rng);
         let kind = rng.below(3);
         // A Set's destination has to fit too, so its count and source leave room.
@@ -94,6 +142,7 @@ impl Window {
             count,
             gap,
             short: [0, 0],
+            most: 100,
         }
     }
 }
@@ -114,6 +163,14 @@ fn near(rng: &mut Rng, place: u64) -> u64 {
 }
 
 impl Draft {
+    /// Every cell of the window, onto itself.
+    fn take_all(&mut self, cells: u64) {
+        [self.src, self.dst, self.count] = [0, 0, cells];
+        if self.kind == 1 {
+            self.gap = 0;
+        }
+    }
+
     /// Changes the input so that it meets this refusal, if none before it does.
     fn cause(&mut self, rng: &mut Rng, number: u64, window: &mut [Vec<u64>; 2]) {
         match number {
@@ -158,7 +215,7 @@ impl Draft {
     /// Numbers of the two results if the call is accepted. A larger count is refused
     /// by 2, and its result has no size to speak of.
     fn results(&self) -> [usize; 2] {
-        let count = self.count.min(100);
+        let count = self.count.min(self.most);
         let rows = (count / 8 + count % 8) as usize;
         let accesses = if self.kind == 2 { rows } else { 2 * rows };
         [16 * rows.max(1), 29 * accesses]

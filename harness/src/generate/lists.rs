@@ -1,6 +1,7 @@
 //! Lists of copy rows: sound ones, damaged ones, rows solved in the field, spliced
 //! calls, dead rows that are not padding.
 
+use super::long::log_scaled;
 use super::numbers::{bad_gap, edge, gap, junk, non_element, room};
 use super::solve::{Plan, solved, solved_once};
 use super::{calls, rows};
@@ -8,7 +9,7 @@ use crate::protocol::{Argument, Question};
 use crate::rng::Rng;
 use crate::sound::{self, Call, CutCall};
 
-type Rows = Vec<Vec<u64>>;
+pub(super) type Rows = Vec<Vec<u64>>;
 
 fn rows_of(numbers: Vec<u64>) -> Rows {
     numbers.chunks(41).map(<[u64]>::to_vec).collect()
@@ -40,6 +41,55 @@ fn sound_list(rng: &mut Rng, gap: u64) -> Rows {
     let deads = if rng.bit() == 1 { rng.place(4) } else { 0 };
     list.extend(rng.many(deads, dead));
     list
+}
+
+/// Sound calls of so many rows in all, of one row and more.
+fn live(rng: &mut Rng, gap: u64, rows: usize) -> Rows {
+    let mut list = Rows::new();
+    while list.len() < rows {
+        let most = rows - list.len();
+        let rows = log_scaled(rng, most).max(1);
+        list.extend(rows_of(sound::rows_of(&calls::call_of_rows(
+            rng, gap, rows,
+        ))));
+    }
+    list
+}
+
+/// A sound list of so many rows, the last ones dead, or none, or any number of them.
+pub(super) fn sound(rng: &mut Rng, gap: u64, rows: usize) -> Rows {
+    let deads = match rng.below(3) {
+        0 => 0,
+        1 => rng.place(rows.min(5) + 1),
+        _ => rng.place(rows + 1),
+    };
+    let mut list = live(rng, gap, rows - deads);
+    list.extend(rng.many(deads, dead));
+    list
+}
+
+/// Sound calls, of which the last lacks its last row.
+pub(super) fn unended(rng: &mut Rng, gap: u64, rows: usize) -> Rows {
+    let last = log_scaled(rng, rows).max(rows.min(1));
+    let mut list = live(rng, gap, rows - last);
+    let cut = calls::call_of_rows(rng, gap, last + 1);
+    list.extend(rows_of(sound::rows_of(&cut)));
+    list.truncate(rows);
+    list
+}
+
+/// One change to the row at this place, or to where it stands.
+pub(super) fn damage(rng: &mut Rng, gap: u64, list: &mut Rows, place: usize) {
+    match rng.below(8) {
+        0 => list[place][rng.place(41)] = non_element(rng),
+        1 => alias(rng, &mut list[place]),
+        2 => list[place] = solved(rng, gap),
+        3 => list[place] = dead(rng),
+        4 => list[place] = list[place.saturating_sub(1)].clone(),
+        5 => list[place][32 + rng.place(9)] ^= 1,
+        6 => rebuild(rng, gap, &mut list[place]),
+        _ => rows::change(rng, &mut list[place]),
+    }
 }
 
 /// Rows as a call that is not sound would have them.

@@ -3,9 +3,10 @@
 pub mod calls;
 mod expansion;
 pub mod lists;
+pub mod long;
 pub mod numbers;
 mod operands;
-mod programs;
+pub mod programs;
 pub mod records;
 mod registers;
 pub mod rows;
@@ -13,6 +14,8 @@ mod solve;
 
 use crate::protocol::{FUNCTIONS, Question, Reply};
 use crate::rng::Rng;
+use long::Long;
+use std::collections::VecDeque;
 
 /// Questions of one kind: a name of `FUNCTIONS`, or `all` for each in turn.
 pub struct Generator {
@@ -21,6 +24,10 @@ pub struct Generator {
     rng: Rng,
     window: expansion::Window,
     registers: registers::Registers,
+    /// Asked before all others.
+    first: VecDeque<Question>,
+    /// Lists of all lengths between the short ones, or none.
+    long: Option<Long>,
 }
 
 impl Generator {
@@ -38,7 +45,24 @@ impl Generator {
             rng: Rng::new(seed),
             window: Default::default(),
             registers: Default::default(),
+            first: VecDeque::new(),
+            long: None,
         })
+    }
+
+    /// The same questions of one function, with lists of all lengths between them, and
+    /// these before them.
+    pub fn of_all_lengths(kind: &str, seed: u64, first: Vec<Question>) -> Option<Self> {
+        Self::new(kind, seed).map(|short| Self {
+            first: first.into(),
+            long: Some(Long::new(seed)),
+            ..short
+        })
+    }
+
+    /// Whether all questions have been asked that come in every run.
+    pub fn is_past_forced(&self) -> bool {
+        self.first.is_empty() && self.long.as_ref().is_none_or(Long::is_past_forced)
     }
 
     pub fn question(&mut self) -> Question {
@@ -55,6 +79,12 @@ impl Generator {
     /// The reply comes too where the next question goes on from it.
     fn next(&mut self) -> (Question, Option<Reply>) {
         let kind = self.kinds[self.asked % self.kinds.len()];
+        if let Some(question) = self.first.pop_front() {
+            return (question, None);
+        }
+        if let Some(asked) = self.long.as_mut().and_then(|long| long.question(kind)) {
+            return asked;
+        }
         self.asked += 1;
         let in_turn = match kind {
             "collect_copy_register_ops" => self.registers.asked(&mut self.rng),

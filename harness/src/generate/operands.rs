@@ -90,6 +90,17 @@ fn copy_operands(rng: &mut Rng) -> [Vec<u64>; 3] {
     }
 }
 
+/// A question with so many conditions, and now and then an operand of so many terms.
+pub fn long_question(rng: &mut Rng, length: usize) -> Question {
+    let mut operands = copy_operands(rng);
+    if rng.once_in(3) {
+        let terms = rng.many(length, term).concat();
+        operands[rng.place(3)] = [vec![1, length as u64], terms, vec![0]].concat();
+    }
+    let conditions = rng.many(length, |rng| rng.below(41));
+    with_conditions(rng, operands, conditions)
+}
+
 pub fn question(rng: &mut Rng) -> Question {
     let operands = match rng.below(3) {
         0 => copy_operands(rng),
@@ -103,6 +114,10 @@ pub fn question(rng: &mut Rng) -> Question {
             rng.many(length, column)
         }
     };
+    with_conditions(rng, operands, conditions)
+}
+
+fn with_conditions(rng: &mut Rng, operands: [Vec<u64>; 3], conditions: Vec<u64>) -> Question {
     let gap = gap(rng);
     let mut row = rows::copy_row(rng, gap);
     rows::damage(rng, &mut row);

@@ -5,8 +5,53 @@ use crate::protocol::Question;
 use crate::rng::Rng;
 
 pub fn question(rng: &mut Rng) -> Question {
-    let input = input(rng).into_iter().map(u64::from).collect::<Vec<u64>>();
-    Question::new("callcheck", vec![input.into()])
+    let input = input(rng);
+    question_of(input)
+}
+
+/// The question for this input.
+pub fn question_of(input: Vec<u8>) -> Question {
+    let bytes: Vec<u64> = input.into_iter().map(u64::from).collect();
+    Question::new("callcheck", vec![bytes.into()])
+}
+
+/// An input of so many bytes: a few calls, then calls of one row each, which go past 32
+/// rows, or bytes of one kind; cut where it has as many bytes as asked.
+pub fn long_question(rng: &mut Rng, length: usize) -> Question {
+    let gap = gap(rng);
+    let mut input = format!("gap\t{gap}\n").into_bytes();
+    for _ in 0..rng.below(8) {
+        input.extend(empty_call(rng, gap).into_bytes());
+    }
+    let fill = rng.pick(b"\n\t0cc");
+    while input.len() < length {
+        match fill {
+            b'c' => input.extend(empty_call(rng, gap).into_bytes()),
+            byte => input.resize(length, byte),
+        }
+    }
+    input.truncate(length);
+    question_of(input)
+}
+
+/// A line that is accepted and has one row.
+fn empty_call(rng: &mut Rng, gap: u64) -> String {
+    let src = rng.below(1 << 32);
+    let stamp = edge(rng).min(u64::MAX - 1);
+    let [stamp, zero] = [stamp, 0].map(|n| number_within(rng, n));
+    match rng.below(3) {
+        0 => format!("copy\t{stamp}\t{src}\t{zero}\t{zero}\n"),
+        1 => format!("set\t{stamp}\t{src}\t{}\t{zero}\n", src + gap),
+        _ => format!("write\t{stamp}\t{src}\t{}\t{zero}\n", u32::MAX),
+    }
+}
+
+/// Digits of a number, 20 or as few as it has.
+fn number_within(rng: &mut Rng, number: u64) -> String {
+    match rng.bit() {
+        0 => format!("{number:020}"),
+        _ => number.to_string(),
+    }
 }
 
 fn input(rng: &mut Rng) -> Vec<u8> {

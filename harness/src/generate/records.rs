@@ -150,18 +150,51 @@ fn long_list(rng: &mut Rng, width: usize) -> Vec<u64> {
 }
 
 /// Least power of two that is at least the count, and at least 4.
-fn rows(records: usize) -> usize {
+pub(super) fn rows(records: usize) -> usize {
     records.next_power_of_two().max(4)
 }
 
-/// A question to a maker of rows of this many columns.
-pub fn table_question(rng: &mut Rng, name: &str) -> Question {
+/// How records of a list are made, and how one is made bad.
+pub(super) struct Kind {
+    pub width: usize,
+    pub make: fn(&mut Rng) -> Vec<u64>,
+    pub spoil: fn(&mut Rng, &mut [u64]),
+}
+
+/// Accesses that can be routed; a bad one meets 10 or 11.
+pub(super) const ROUTABLE: Kind = Kind {
+    width: ACCESS,
+    make: routable,
+    spoil: |rng, record| match rng.bit() {
+        0 => spoil(rng, record),
+        _ => lose_index(rng, record),
+    },
+};
+
+/// A register access, near its old stamp, at an address that the register table lacks.
+fn lose_index(rng: &mut Rng, record: &mut [u64]) {
+    let old = rng.below(1 << 31);
+    record[0] = 1;
+    record[1] = rng.pick(&[1, 23, 131_071, 131_072, 131_073, 1 << 32, u64::MAX]);
+    record[10] = old + rng.pick(&[1, 2, 65_535, 65_536]);
+    record[11] = 2;
+    record[21..29].fill(old);
+}
+
+/// The records of a maker's list, and the columns of its table.
+pub(super) fn kind_of_table(name: &str) -> (Kind, usize) {
     let (width, columns, make): (_, _, fn(&mut Rng) -> Vec<u64>) = match name {
         "generate_copy_trace" => (OPERATION, 41, operation),
         "generate_memw_trace" => (ACCESS, 49, access),
         "generate_memw_aligned_trace" => (ACCESS, 29, access),
         _ => (REGISTER, 10, register),
     };
+    (Kind { width, make, spoil }, columns)
+}
+
+/// A question to a maker.
+pub fn table_question(rng: &mut Rng, name: &str) -> Question {
+    let (Kind { width, make, .. }, columns) = kind_of_table(name);
     let records = list(rng, width, make);
     let length = room(rng, rows(records.len() / width) * columns);
     Question::new(name, vec![records.into(), junk(rng, length).into()])

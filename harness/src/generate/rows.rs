@@ -79,16 +79,32 @@ fn residue_number(rng: &mut Rng, residues: u64) -> u64 {
     }
 }
 
+/// A question for one residue of a row of so many numbers.
+pub fn long_question(rng: &mut Rng, name: &str, length: usize) -> Question {
+    let (gap, row) = (gap(rng), access_row(rng, length));
+    question_on(rng, name, gap, row)
+}
+
 /// A question for one residue of one row.
 pub fn residue_question(rng: &mut Rng, name: &str) -> Question {
     let gap = gap(rng);
-    let (mut row, residues) = match name {
-        "copy_residue" => (copy_row(rng, gap), 40),
-        "memw_residue" => (access_row(rng, 49), 15),
-        "memw_aligned_residue" => (access_row(rng, 29), 8),
-        _ => (access_row(rng, 10), 3),
+    let mut row = match name {
+        "copy_residue" => copy_row(rng, gap),
+        "memw_residue" => access_row(rng, 49),
+        "memw_aligned_residue" => access_row(rng, 29),
+        _ => access_row(rng, 10),
     };
     damage(rng, &mut row);
+    question_on(rng, name, gap, row)
+}
+
+fn question_on(rng: &mut Rng, name: &str, gap: u64, row: Vec<u64>) -> Question {
+    let residues = match name {
+        "copy_residue" => 40,
+        "memw_residue" => 15,
+        "memw_aligned_residue" => 8,
+        _ => 3,
+    };
     let number = residue_number(rng, residues);
     let mut arguments: Vec<Argument> = vec![row.into(), number.into()];
     if name == "copy_residue" {

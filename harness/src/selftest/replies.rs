@@ -8,22 +8,12 @@ use crate::protocol::{Argument, FUNCTIONS, Question, Reply};
 use crate::rng::Rng;
 
 pub fn run(report: &mut Report, seed: u64, count: u64) {
-    for (name, _) in FUNCTIONS {
+    for (name, ..) in FUNCTIONS {
         report.add(refusals_write_nothing(name, seed, count / 20));
     }
     report.add(routes_by_words(seed, count));
     report.add(made_rows_have_zero_residues(seed, count / 20));
     report.add(moved_bytes(seed, count / 20));
-}
-
-fn lent_before(question: &Question) -> Vec<Vec<u64>> {
-    let pairs = question.parameters().iter().zip(&question.arguments);
-    pairs
-        .filter_map(|(parameter, argument)| match argument {
-            Argument::List(list) if parameter.is_lent() => Some(list.clone()),
-            _ => None,
-        })
-        .collect()
 }
 
 fn refusals_write_nothing(name: &'static str, seed: u64, count: u64) -> Tally {
@@ -32,7 +22,7 @@ fn refusals_write_nothing(name: &'static str, seed: u64, count: u64) -> Tally {
     for _ in 0..count {
         let question = generator.question();
         let Reply { answer, lent } = question.reply();
-        let kept = answer.number == 0 || lent == lent_before(&question);
+        let kept = answer.number == 0 || lent.iter().eq(question.lists(true));
         let place = answer.number != 0 || answer.place == 0;
         let value = matches!(answer.number, 0 | 16) || answer.value == 0;
         let carried = Question::parse(&question.line()).as_ref() == Ok(&question);

@@ -1,0 +1,171 @@
+//! What one function's run has seen, and what it should have.
+
+use crate::generate::long::EDGES;
+use crate::oracle::LIST_LIMIT;
+use crate::oracle::records::{ACCESS, OPERATION, REGISTER};
+use crate::protocol::{Argument, FUNCTIONS, Question, Reply};
+use std::fmt::Write as _;
+
+/// A list of more records than this is a long one.
+const SHORT: usize = 1000;
+
+pub struct Tally {
+    name: &'static str,
+    pub cases: u64,
+    pub mismatches: u64,
+    /// By number; 0 is no refusal.
+    answers: [u64; 19],
+    /// Of the refusals 16, by residue.
+    residues: [u64; 40],
+    /// Rows that were asked for all their residues, beside the one in the question.
+    pub whole_rows: u64,
+    /// Calls that found a window or a state just as our call before had left it.
+    pub in_turn: u64,
+    /// Lists of each of the lengths around the limit, and all long ones.
+    edges: [u64; 3],
+    long: u64,
+    /// Calls that took the whole of a window of 65,536 cells and were accepted.
+    whole_windows: u64,
+}
+
+impl Tally {
+    pub fn new(name: &'static str) -> Self {
+        Self {
+            name,
+            cases: 0,
+            mismatches: 0,
+            answers: [0; 19],
+            residues: [0; 40],
+            whole_rows: 0,
+            in_turn: 0,
+            edges: [0; 3],
+            long: 0,
+            whole_windows: 0,
+        }
+    }
+
+    /// Counts a question by the oracle's reply.
+    pub fn saw(&mut self, question: &Question, reply: &Reply) {
+        self.cases += 1;
+        let number = match question.name() {
+            "callcheck" => reply.verdict()[0],
+            _ => reply.answer.number,
+        };
+        self.answers[number as usize] += 1;
+        if number == 16 {
+            self.residues[reply.answer.value as usize] += 1;
+        }
+        let Some(length) = length(question) else {
+            return;
+        };
+        self.long += u64::from(length > SHORT);
+        for (edge, times) in EDGES.into_iter().zip(&mut self.edges) {
+            *times += u64::from(edge == length);
+        }
+        if self.name == "collect_copy_ops" && number == 0 {
+            let all = Argument::Number(LIST_LIMIT as u64);
+            self.whole_windows += u64::from(question.arguments[4] == all);
+        }
+    }
+
+    /// What should have occurred and did not, or occurred and should not have.
+    pub fn missing(&self) -> Vec<String> {
+        let name = self.name;
+        let refusals = FUNCTIONS
+            .iter()
+            .find(|f| f.0 == name)
+            .map_or(&[][..], |f| f.2);
+        let mut faults = Vec::new();
+        for (number, &times) in self.answers.iter().enumerate() {
+            let listed = number == 0 || refusals.contains(&(number as u64));
+            match (listed, times) {
+                (true, 0) if number == 0 => faults.push(format!("{name}: never answered")),
+                (true, 0) => faults.push(format!("{name}: never refused by {number}")),
+                (false, 1..) => faults.push(format!("{name}: refused by {number}")),
+                _ => {}
+            }
+        }
+        for (edge, times) in EDGES.into_iter().zip(self.edges) {
+            if times == 0 && self.has_lists() {
+                faults.push(format!("{name}: no list of {edge}"));
+            }
+        }
+        if self.whole_windows == 0 && name == "collect_copy_ops" {
+            faults.push(format!(
+                "{name}: no call of a whole window of {LIST_LIMIT} cells"
+            ));
+        }
+        faults
+    }
+
+    fn has_lists(&self) -> bool {
+        unit(self.name).is_some()
+    }
+
+    pub fn text(&self) -> String {
+        let Self {
+            name,
+            cases,
+            mismatches,
+            answers,
+            ..
+        } = self;
+        let mut text = format!("{name}: {cases} cases, {mismatches} mismatches");
+        let _ = write!(text, "; answered {}", answers[0]);
+        for (number, times) in answers.iter().enumerate().skip(1) {
+            if *times > 0 {
+                let _ = write!(text, ", refused by {number}: {times}");
+            }
+        }
+        text.push('\n');
+        if self.has_lists() {
+            let [before, at, past] = self.edges;
+            let long = self.long;
+            let _ = writeln!(
+                text,
+                "    lists of more than {SHORT}: {long}, of 65,535, 65,536 and 65,537: {before}, {at}, {past}"
+            );
+        }
+        if answers[16] > 0 {
+            let _ = writeln!(text, "    16 by residue, from 0 on: {:?}", self.residues);
+        }
+        let lines = [
+            (
+                self.whole_windows,
+                "calls of a whole window of 65,536 cells",
+            ),
+            (self.whole_rows, "rows asked for all their residues"),
+            (self.in_turn, "in turn over what the call before left"),
+        ];
+        for (times, what) in lines.into_iter().filter(|line| line.0 > 0) {
+            let _ = writeln!(text, "    {what}: {times}");
+        }
+        text
+    }
+}
+
+/// Which argument is the function's list, and how many numbers its records have.
+fn unit(name: &str) -> Option<(usize, usize)> {
+    let unit = match name {
+        "generate_copy_trace" => (0, OPERATION),
+        "generate_memw_register_trace" => (0, REGISTER),
+        "generate_memw_trace" | "generate_memw_aligned_trace" | "route_accesses" => (0, ACCESS),
+        "chain_check" | "read_back" => (1, 41),
+        "collect_copy_ops" => (6, 1),
+        "copy_residue" => (1, 1),
+        "memw_residue" | "memw_aligned_residue" | "memw_register_residue" => (0, 1),
+        "add_pair" => (3, 1),
+        "callcheck" => (0, 1),
+        _ => return None,
+    };
+    Some(unit)
+}
+
+/// Records of the function's list, a cut one not counted.
+fn length(question: &Question) -> Option<usize> {
+    let (argument, width) = unit(question.name())?;
+    match &question.arguments[argument] {
+        Argument::List(list) => Some(list.len() / width),
+        Argument::Number(_) => None,
+    }
+}
