@@ -2,11 +2,13 @@
 //! structs and returns lists that it allocates; the proved code writes the same numbers
 //! into lent buffers, not cleared.
 
-use super::{Report, SIZES, Times, race_two};
+use super::{Report, SIZES, Times, answered, race_two};
 use crate::exported;
 use crate::generate::records;
-use crate::oracle;
-use crate::oracle::records::{ACCESS, OPERATION, REGISTER, access_of, access_record};
+use crate::oracle::records::{
+    ACCESS, OPERATION, REGISTER, access_of, access_record, operation_record, register_record,
+};
+use crate::oracle::{self, Answer};
 use crate::rng::Rng;
 use original::tables::copy::Functionality;
 use original::tables::memw::MemwOperation;
@@ -22,6 +24,12 @@ const KINDS: [(&str, Functionality); 3] = [
 /// Steps in a turn.
 const STEPS: u64 = 1024;
 
+/// Begins at a multiple of 1,024 bytes, so that what has no more bytes lies in one page:
+/// a store over a page's edge costs several nanoseconds, and where the stack begins
+/// changes from run to run.
+#[repr(align(1024))]
+struct InOnePage<T>(T);
+
 /// Steps of one kind in turn over one state. A Write of one byte leaves x10 at 1, so
 /// that the next one is accepted; its destination is the index.
 pub fn step(report: &mut Report) {
@@ -31,46 +39,78 @@ pub fn step(report: &mut Report) {
     for (kind, (name, functionality)) in KINDS.into_iter().enumerate() {
         let mut start = new_register_state(0, 1 << 30);
         start.values[10] = 1;
-        let mut state = oracle::flat_registers(&start);
-        let mut file = RegisterFile::new(&start);
-        let mut records = [0; 4 * ACCESS];
-        let call = |index: u64| [64, if kind == 2 { index } else { 4096 }, 1];
+        let mut steps = Steps {
+            kind: kind as u64,
+            functionality,
+            state: InOnePage(oracle::flat_registers(&start)),
+            records: InOnePage([0; 4 * ACCESS]),
+        };
+        let mut file = InOnePage(RegisterFile::new(&start));
+        let times = steps.race(&mut file.0);
+        steps.compare(&mut file.0);
+        let what = format!("collect_copy_register_ops, {name}");
+        report.call(&what, "original", times);
+    }
+}
 
+/// Our side, and what both sides do.
+struct Steps {
+    kind: u64,
+    functionality: Functionality,
+    state: InOnePage<[u64; 68]>,
+    records: InOnePage<[u64; 4 * ACCESS]>,
+}
+
+impl Steps {
+    /// Source, destination and count of a step. An index that begins anew with each turn
+    /// stays far below 2^32.
+    fn call(&self, step: u64) -> [u64; 3] {
+        [64, if self.kind == 2 { step } else { 4096 }, 1]
+    }
+
+    fn ours(&mut self, step: u64) -> Answer {
+        let [src, dst, count] = self.call(step);
+        let (state, records) = (&mut self.state.0, &mut self.records.0);
+        exported::collect_copy_register_ops(self.kind, step, src, dst, count, state, records)
+    }
+
+    fn race(&mut self, file: &mut RegisterFile) -> Times {
+        let functionality = self.functionality;
+        let calls: Vec<[u64; 3]> = (0..STEPS).map(|step| self.call(step)).collect();
         let mut ours = || {
-            // An index that stays far below 2^32, whatever the number of turns.
-            state[64] = 0;
-            for i in 0..STEPS {
-                let [src, dst, count] = call(i);
-                let (state, records) = (&mut state, &mut records);
-                black_box(exported::collect_copy_register_ops(
-                    kind as u64,
-                    i,
-                    src,
-                    dst,
-                    count,
-                    state,
-                    records,
-                ));
+            self.state.0[64] = 0;
+            for step in 0..STEPS {
+                black_box(self.ours(step));
             }
         };
         let mut rust = || {
             file.set_index(0);
-            for i in 0..STEPS {
-                black_box(file.step(functionality, i, call(i)).expect("a sound step"));
+            for (step, call) in (0..STEPS).zip(&calls) {
+                black_box(file.step(functionality, step, *call).expect("sound"));
             }
         };
         ours();
         rust();
-        let times = race_two(STEPS as usize, &mut ours, &mut rust);
-        assert!(
-            state == oracle::flat_registers(&file.registers()),
-            "step: states differ"
-        );
-        report.call(
-            &format!("collect_copy_register_ops, {name}"),
-            "original",
-            times,
-        );
+        race_two(STEPS as usize, &mut ours, &mut rust)
+    }
+
+    /// One more turn on both sides: every step's answer, records and state.
+    fn compare(&mut self, file: &mut RegisterFile) {
+        self.state.0[64] = 0;
+        file.set_index(0);
+        for step in 0..STEPS {
+            let answer = self.ours(step);
+            let made = file.step(self.functionality, step, self.call(step));
+            let made = made.expect("sound");
+            let mut flat: Vec<u64> = made.iter().flat_map(access_record).collect();
+            flat.resize(4 * ACCESS, 0);
+            assert!(
+                answer == answered(made.len())
+                    && self.records.0[..] == flat
+                    && self.state.0 == oracle::flat_registers(&file.registers()),
+                "step {step}: results differ"
+            );
+        }
     }
 }
 
@@ -90,6 +130,9 @@ pub fn expansion(report: &mut Report) {
     }
 }
 
+/// What lies in the buffers before the first turn.
+const JUNK: u64 = 1;
+
 fn expand(kind: u64, functionality: Functionality, count: u64) -> Times {
     const CELLS: usize = 1 << 16;
     let gap = 8;
@@ -101,24 +144,16 @@ fn expand(kind: u64, functionality: Functionality, count: u64) -> Times {
     let mut stamps = rng.many(CELLS, |rng| rng.below(1000));
     let mut window = Window::new(&bytes, &stamps);
     let rows = count as usize / 8;
-    let mut ops = vec![1; rows * OPERATION];
-    let mut accesses = vec![1; 2 * rows * ACCESS];
+    let mut ops = vec![JUNK; rows * OPERATION];
+    let mut accesses = vec![JUNK; 2 * rows * ACCESS];
     let mut counts = [0; 2];
+    let mut answer = answered(0);
 
     let mut ours = || {
         let (bytes, stamps, counts) = (&mut bytes, &mut stamps, &mut counts);
-        black_box(exported::collect_copy_ops(
-            kind,
-            1000,
-            0,
-            dst,
-            count,
-            gap,
-            bytes,
-            stamps,
-            &mut ops,
-            &mut accesses,
-            counts,
+        let (ops, accesses) = (&mut ops, &mut accesses);
+        answer = black_box(exported::collect_copy_ops(
+            kind, 1000, 0, dst, count, gap, bytes, stamps, ops, accesses, counts,
         ));
     };
     let mut made = None;
@@ -126,11 +161,26 @@ fn expand(kind: u64, functionality: Functionality, count: u64) -> Times {
     ours();
     rust();
     let times = race_two(count as usize, &mut ours, &mut rust);
-    let (memw, _) = made.expect("a turn was taken");
-    let flat: Vec<u64> = memw.iter().flat_map(access_record).collect();
-    assert!(accesses[..flat.len()] == flat, "expansion: accesses differ");
-    assert!(counts[1] as usize == memw.len(), "expansion: counts differ");
+
+    let (memw, rows) = made.expect("a turn was taken");
+    let flat_ops: Vec<u64> = rows.iter().flat_map(operation_record).collect();
+    let flat_accesses: Vec<u64> = memw.iter().flat_map(access_record).collect();
+    let cells: Vec<(u8, u64)> = bytes.into_iter().zip(stamps).collect();
+    assert!(
+        answer == answered(rows.len())
+            && counts == [rows.len(), memw.len()].map(|length| length as u64)
+            && is_front(&ops, &flat_ops)
+            && is_front(&accesses, &flat_accesses)
+            && (0..CELLS).all(|cell| cells[cell] == window.cell(cell)),
+        "expansion: results differ"
+    );
     times
+}
+
+/// Whether a buffer begins with the result and has junk after it.
+fn is_front(buffer: &[u64], result: &[u64]) -> bool {
+    let (front, rest) = buffer.split_at(result.len());
+    front == result && rest.iter().all(|&number| number == JUNK)
 }
 
 /// Access records near the edges of the three routes.
@@ -141,32 +191,45 @@ pub fn routing(report: &mut Report) {
     let mut rng = Rng::new(1);
     let list = rng.many(SIZES[2], records::routable).concat();
     let structs: Vec<MemwOperation> = list.chunks(ACCESS).map(access_of).collect();
-    let mut lists = [REGISTER, ACCESS, ACCESS].map(|width| vec![1; SIZES[2] * width]);
+    let mut lists = [REGISTER, ACCESS, ACCESS].map(|width| vec![JUNK; SIZES[2] * width]);
     let mut counts = [0; 3];
     let times = SIZES.map(|n| {
+        lists.iter_mut().for_each(|list| list.fill(JUNK));
         let [register, aligned, general] = &mut lists;
         let list = &list[..n * ACCESS];
+        let mut answer = answered(0);
         let mut ours = || {
             let counts = &mut counts;
-            black_box(exported::route_accesses(
-                list, register, aligned, general, counts,
-            ));
+            let made = exported::route_accesses(list, register, aligned, general, counts);
+            answer = black_box(made);
         };
         let mut rust = || drop(black_box(route(structs[..n].iter().cloned())));
-        race_two(n, &mut ours, &mut rust)
+        let times = race_two(n, &mut ours, &mut rust);
+        assert!(
+            answer == answered(n) && is_routed(&structs[..n], &lists, counts),
+            "routing: results differ"
+        );
+        times
     });
-    let routed = route(structs.iter().cloned());
+    let [register, aligned, general] = counts;
+    let what =
+        format!("route_accesses ({register} register, {aligned} aligned, {general} general)");
+    report.sizes(&what, "original", times);
+}
+
+/// Whether the lists begin with what the original makes, and have junk after it.
+fn is_routed(accesses: &[MemwOperation], lists: &[Vec<u64>; 3], counts: [u64; 3]) -> bool {
+    let routed = route(accesses.iter().cloned());
+    let flat: [Vec<u64>; 3] = [
+        routed.register.iter().flat_map(register_record).collect(),
+        routed.aligned.iter().flat_map(access_record).collect(),
+        routed.general.iter().flat_map(access_record).collect(),
+    ];
     let lengths = [
         routed.register.len(),
         routed.aligned.len(),
         routed.general.len(),
     ];
-    assert!(
-        counts == lengths.map(|length| length as u64),
-        "routing: counts differ"
-    );
-    let [register, aligned, general] = lengths;
-    let what =
-        format!("route_accesses ({register} register, {aligned} aligned, {general} general)");
-    report.sizes(&what, "original", times);
+    let mut pairs = lists.iter().zip(&flat);
+    counts == lengths.map(|length| length as u64) && pairs.all(|(list, flat)| is_front(list, flat))
 }

@@ -84,40 +84,39 @@ pub fn run(report: &mut Report) {
 fn measure(report: &mut Report, name: &str, sides: [impl Fn(u64, u64) -> u64 + Copy; 3]) {
     let mut rng = Rng::new(1);
     let [left, right] = [(); 2].map(|()| rng.many(PRODUCTS, |rng| 1 + rng.below(PRIME - 1)));
-    let chains = sides.map(|side| chain(side, &right));
-    assert!(
-        chains.iter().all(|&end| end == chains[0]),
-        "{name}: chains differ"
-    );
-    let mut outs = sides.map(|side| {
-        let mut out = vec![0; PRODUCTS];
-        array(side, &left, &right, &mut out);
-        out
-    });
-    assert!(
-        outs.iter().all(|out| *out == outs[0]),
-        "{name}: products differ"
-    );
 
-    let [a, b, c] = sides.map(|side| {
-        let right = &right;
-        move || _ = black_box(chain(black_box(side), right))
-    });
+    let mut ends = [0, 1, 2];
+    let [a, b, c] = &mut ends;
+    let what = format!("{name}, dependent chain");
     add_rows(
         report,
-        &format!("{name}, dependent chain"),
-        [&mut { a }, &mut { b }, &mut { c }],
-    );
-    let [out_a, out_b, out_c] = &mut outs;
-    add_rows(
-        report,
-        &format!("{name}, array of 1,024"),
+        &what,
         [
-            &mut || array(black_box(sides[0]), &left, &right, out_a),
-            &mut || array(black_box(sides[1]), &left, &right, out_b),
-            &mut || array(black_box(sides[2]), &left, &right, out_c),
+            &mut || *a = black_box(chain(black_box(sides[0]), &right)),
+            &mut || *b = black_box(chain(black_box(sides[1]), &right)),
+            &mut || *c = black_box(chain(black_box(sides[2]), &right)),
         ],
     );
+    assert!(is_one(&ends), "{what}: results differ");
+
+    let mut outs = [0, 1, 2].map(|junk| vec![junk; PRODUCTS]);
+    let [a, b, c] = &mut outs;
+    let what = format!("{name}, array of 1,024");
+    add_rows(
+        report,
+        &what,
+        [
+            &mut || array(black_box(sides[0]), &left, &right, a),
+            &mut || array(black_box(sides[1]), &left, &right, b),
+            &mut || array(black_box(sides[2]), &left, &right, c),
+        ],
+    );
+    assert!(is_one(&outs), "{what}: results differ");
+}
+
+/// Whether the three sides have one result.
+fn is_one<T: PartialEq>(results: &[T; 3]) -> bool {
+    results.iter().all(|result| *result == results[0])
 }
 
 fn add_rows(report: &mut Report, what: &str, mut turns: [super::Turn; 3]) {

@@ -1,9 +1,9 @@
 //! Chain check and read-back on sound lists, against a good one-pass check in Rust.
 
-use super::{Report, SIZES, Times, one_pass, race_two};
+use super::{Report, SIZES, Times, answered, one_pass, race_two};
 use crate::exported;
 use crate::generate::Generator;
-use crate::oracle::{self, COPY_COLUMNS};
+use crate::oracle::{self, Answer, COPY_COLUMNS};
 use crate::protocol::{Argument, Question};
 use crate::rng::Rng;
 use crate::sound::{self, Call, CutCall, Piece};
@@ -33,48 +33,43 @@ pub fn run(report: &mut Report) {
 
 fn check(list: &[u64]) -> Times {
     let list = black_box(list);
-    let answers = [
-        exported::chain_check(GAP, list),
-        one_pass::chain_check(GAP, list),
-    ];
-    assert!(
-        answers[0] == answers[1] && answers[0].number == 0,
-        "chain check: {answers:?}"
+    let rows = list.len() / COPY_COLUMNS;
+    let mut answers = [answered(0); 2];
+    let [ours, rust] = &mut answers;
+    let times = race_two(
+        rows,
+        &mut || *ours = black_box(exported::chain_check(GAP, list)),
+        &mut || *rust = black_box(one_pass::chain_check(GAP, list)),
     );
-    race_two(
-        list.len() / COPY_COLUMNS,
-        &mut || _ = black_box(exported::chain_check(GAP, list)),
-        &mut || _ = black_box(one_pass::chain_check(GAP, list)),
-    )
+    assert!(
+        answers == [answered(rows); 2],
+        "chain check: {answers:?} differ"
+    );
+    times
 }
 
 /// Lists of one row each, on which nothing but the last residue is amiss: here the proved
 /// code walks all residues by number after its quick test.
 fn walk(rows: &[(u64, Vec<u64>)]) -> Times {
     let rows = black_box(rows);
-    for (gap, row) in rows {
-        let answers = [
-            exported::chain_check(*gap, row),
-            one_pass::chain_check(*gap, row),
-        ];
-        assert!(
-            answers[0] == answers[1] && (answers[0].number, answers[0].value) == (16, 39),
-            "chain check: {answers:?}"
-        );
-    }
-    race_two(
+    let mut answers = [(); 2].map(|()| vec![answered(0); rows.len()]);
+    let [ours, rust] = &mut answers;
+    let turn = |check: fn(u64, &[u64]) -> Answer, answers: &mut [Answer]| {
+        for ((gap, row), answer) in rows.iter().zip(answers) {
+            *answer = black_box(check(*gap, row));
+        }
+    };
+    let times = race_two(
         rows.len(),
-        &mut || {
-            for (gap, row) in rows {
-                black_box(exported::chain_check(*gap, row));
-            }
-        },
-        &mut || {
-            for (gap, row) in rows {
-                black_box(one_pass::chain_check(*gap, row));
-            }
-        },
-    )
+        &mut || turn(exported::chain_check, ours),
+        &mut || turn(one_pass::chain_check, rust),
+    );
+    let last = |answer: &Answer| (answer.number, answer.value) == (16, 39);
+    assert!(
+        answers[0] == answers[1] && answers[0].iter().all(last),
+        "chain check: answers differ"
+    );
+    times
 }
 
 /// Rows that the chain check's questions have and that fail by residue 39 first.
@@ -100,29 +95,57 @@ fn row_of(question: &Question) -> Option<(u64, Vec<u64>)> {
     Some((*gap, list[start..start + COPY_COLUMNS].to_vec()))
 }
 
+/// What one side's read-back writes, over junk, and its answer.
+struct Read {
+    ops: Vec<u64>,
+    calls: Vec<u64>,
+    counts: [u64; 2],
+    answer: Answer,
+}
+
+type ReadBack = fn(u64, &[u64], &mut [u64], &mut [u64], &mut [u64; 2]) -> Answer;
+
+impl Read {
+    fn new(rows: usize, junk: u64) -> Self {
+        Self {
+            ops: vec![junk; 16 * rows],
+            calls: vec![junk; 5 * rows],
+            counts: [junk; 2],
+            answer: answered(0),
+        }
+    }
+
+    fn turn(&mut self, list: &[u64], side: ReadBack) {
+        let Read {
+            ops, calls, counts, ..
+        } = self;
+        self.answer = black_box(side(GAP, list, ops, calls, counts));
+    }
+
+    /// The records and calls that were written, if nothing else was.
+    fn written(&self, junk: u64) -> Option<(&[u64], &[u64])> {
+        let [live, calls] = self.counts.map(|count| count as usize);
+        let (ops, after_ops) = self.ops.split_at_checked(16 * live)?;
+        let (calls, after_calls) = self.calls.split_at_checked(5 * calls)?;
+        let mut rest = after_ops.iter().chain(after_calls);
+        let kept = rest.all(|&number| number == junk);
+        (kept && live > 0 && self.answer == answered(live)).then_some((ops, calls))
+    }
+}
+
 fn read_back(list: &[u64]) -> Times {
     let list = black_box(list);
     let rows = list.len() / COPY_COLUMNS;
-    let mut buffers = [1, 2].map(|junk| (vec![junk; 16 * rows], vec![junk; 5 * rows], [0; 2]));
-    let [(ops, calls, counts), (rust_ops, rust_calls, rust_counts)] = &mut buffers;
-    let mut ours = || _ = black_box(exported::read_back(GAP, list, ops, calls, counts));
-    let mut rust = || {
-        _ = black_box(one_pass::read_back(
-            GAP,
-            list,
-            rust_ops,
-            rust_calls,
-            rust_counts,
-        ))
-    };
-    let times = race_two(rows, &mut ours, &mut rust);
-    let [ours, rust] = &buffers;
-    let [live, calls] = ours.2.map(|count| count as usize);
-    let same =
-        ours.0[..16 * live] == rust.0[..16 * live] && ours.1[..5 * calls] == rust.1[..5 * calls];
+    let (mut ours, mut rust) = (Read::new(rows, 1), Read::new(rows, 2));
+    let times = race_two(
+        rows,
+        &mut || ours.turn(list, exported::read_back),
+        &mut || rust.turn(list, one_pass::read_back),
+    );
+    let read = ours.written(1);
     assert!(
-        same && ours.2 == rust.2 && live > 0,
-        "read-back: records differ"
+        read.is_some() && read == rust.written(2),
+        "read-back: results differ"
     );
     times
 }

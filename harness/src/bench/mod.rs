@@ -1,5 +1,5 @@
-//! Time ratios of the proved code to Rust, in one process, on the same inputs. The
-//! results of the two sides are compared too: a difference ends the run.
+//! Time ratios of the proved code to Rust, in one process, on the same inputs. After
+//! each line the results of the two sides are compared whole: a difference ends the run.
 
 mod accesses;
 mod field;
@@ -9,6 +9,7 @@ pub mod one_pass;
 mod tables;
 
 use crate::exported;
+use crate::oracle::Answer;
 use std::fmt::Write;
 use std::time::{Duration, Instant};
 
@@ -182,6 +183,15 @@ fn race_two(units: usize, ours: Turn, rust: Turn) -> Times {
     Times {
         ours: times[0] / units as f64,
         rust: times[1] / units as f64,
+    }
+}
+
+/// The answer of a call that refuses nothing.
+fn answered(value: usize) -> Answer {
+    Answer {
+        number: 0,
+        place: 0,
+        value: value as u64,
     }
 }
 

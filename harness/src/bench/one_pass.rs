@@ -3,6 +3,7 @@
 //! the field, with what several share computed once; no allocation. The self-test holds
 //! it against the oracle.
 
+use super::answered;
 use super::goldilocks::{INV_SHIFT_32, add, mul, sub};
 use crate::oracle::{Answer, COPY_COLUMNS, GAP_LIMIT, PRIME};
 use original::tables::copy::cols;
@@ -55,14 +56,6 @@ pub fn read_back(
     }
     *counts = [found.live as u64, found.calls as u64];
     answered(found.live)
-}
-
-fn answered(value: usize) -> Answer {
-    Answer {
-        number: 0,
-        place: 0,
-        value: value as u64,
-    }
 }
 
 fn refused(number: u64, place: usize) -> Answer {

@@ -3,7 +3,7 @@
 //! cleared in the same turn. The other two tables are not among the published files:
 //! there the Rust side is document 01's layer of the oracle, on the same lent table.
 
-use super::{Report, SIZES, race_two};
+use super::{Report, SIZES, answered, race_two};
 use crate::exported;
 use crate::generate::records;
 use crate::oracle::records::{ACCESS, OPERATION, REGISTER, access_of, operation_of};
@@ -86,21 +86,21 @@ fn against_original(
     let Table { name, columns, .. } = table;
     let mut lent = vec![1; LARGEST * columns];
     let ours = |n: usize, lent: &mut [u64]| (table.ours)(&list[..n * table.record], lent);
-    for n in SIZES {
-        ours(n, &mut lent);
-        let same = lent[..n * columns] == numbers(&make(n));
-        assert!(same, "{name}: tables differ");
-    }
     for clears in [false, true] {
         let times = SIZES.map(|n| {
             let lent = &mut lent[..n * columns];
+            lent.fill(1);
+            let mut answer = answered(0);
             let mut turn = || {
                 if clears {
                     black_box(&mut *lent).fill(0);
                 }
-                black_box(ours(n, lent));
+                answer = black_box(ours(n, lent));
             };
-            race_two(n, &mut turn, &mut || drop(black_box(make(n))))
+            let times = race_two(n, &mut turn, &mut || drop(black_box(make(n))));
+            let same = answer == answered(n) && lent == numbers(&make(n));
+            assert!(same, "{name}: results differ");
+            times
         });
         let how = if clears { "cleared" } else { "not cleared" };
         let what = format!("{name}, table {how}");
@@ -111,17 +111,22 @@ fn against_original(
 /// Both sides on the same lent table, not cleared.
 fn against_layer(report: &mut Report, table: &Table, list: &[u64], layer: Maker) {
     let Table { name, columns, .. } = table;
-    let mut tables = [1, 2].map(|junk| vec![junk; LARGEST * columns]);
-    for (side, lent) in [table.ours, layer].into_iter().zip(&mut tables) {
-        side(list, lent);
-    }
-    assert!(tables[0] == tables[1], "{name}: tables differ");
-    // The two sides are lent the same table in turn.
-    let [lent, _] = tables.map(RefCell::new);
+    let lent = RefCell::new(vec![1; LARGEST * columns]);
     let times = SIZES.map(|n| {
         let list = &list[..n * table.record];
         let turn = |side: Maker| black_box(side(list, &mut lent.borrow_mut()[..n * columns]));
-        race_two(n, &mut || _ = turn(table.ours), &mut || _ = turn(layer))
+        let times = race_two(n, &mut || _ = turn(table.ours), &mut || _ = turn(layer));
+        // Over different junk, so that a number that is not written differs.
+        let [ours, rust] = [(1, table.ours), (2, layer)].map(|(junk, side)| {
+            lent.borrow_mut().fill(junk);
+            let answer = turn(side);
+            (answer, lent.borrow()[..n * columns].to_vec())
+        });
+        assert!(
+            ours == rust && ours.0 == answered(n),
+            "{name}: results differ"
+        );
+        times
     });
     let what = format!("{name}, table not cleared");
     report.sizes(&what, "document 01's layer", times);
