@@ -13,6 +13,11 @@ use super::page::{Row, is_name, rows};
 use super::tree::Tree;
 use std::collections::{BTreeMap, BTreeSet};
 
+/// Words of the language that stand in backticks and are no names.
+const KEYWORDS: [&str; 8] = [
+    "match", "let", "else", "fn", "enum", "extern", "requires", "ensures",
+];
+
 pub fn faults(tree: &Tree, page: &str) -> Vec<String> {
     let mut reader = Reader {
         tree,
@@ -204,7 +209,7 @@ impl Reader<'_> {
             .windows(2)
             .any(|pair| pair[0].is_ascii_lowercase() && pair[1].is_ascii_uppercase());
         let looks = is_name(word) && (token.quoted || word.contains('_') || humped);
-        if looks && !self.tree.defines("", word) {
+        if looks && !KEYWORDS.contains(&word) && !self.tree.defines("", word) {
             self.fault(format!("{word} is defined nowhere"));
         }
     }

@@ -1,6 +1,5 @@
 //! What crates/ holds: files, names that they define, must-fail edits.
 
-use super::page::is_name;
 use std::collections::{BTreeMap, BTreeSet};
 use std::path::{Path, PathBuf};
 use std::{fs, io};
@@ -84,36 +83,26 @@ fn defined(text: &str) -> BTreeSet<String> {
     names
 }
 
-/// The names that a source file declares: functions, types, constants, modules, fields
-/// and cases.
+/// The names that a source file declares: functions, types, constants, modules, and the
+/// fields and cases of types.
 fn declared(text: &str) -> BTreeSet<String> {
     let mut names = BTreeSet::new();
+    let mut in_type = false;
     for line in text.lines() {
-        let line = line.trim_start();
         let words: Vec<&str> = line
             .split(|c: char| !c.is_ascii_alphanumeric() && c != '_')
-            .filter(|word| !["pub", "ghost", "extern", "C", "mut", ""].contains(word))
+            .filter(|word| !["pub", "ghost", "extern", "C", ""].contains(word))
             .collect();
         match words[..] {
-            [
-                "fn" | "struct" | "enum" | "const" | "mod" | "type",
-                name,
-                ..,
-            ] => {
+            ["fn" | "const" | "mod" | "type", name, ..] => drop(names.insert(name.to_string())),
+            ["struct" | "enum", name, ..] => {
                 names.insert(name.to_string());
+                in_type = line.ends_with('{');
             }
-            [name, ..] if line.starts_with("pub ") || starts_case(line, name) => {
-                names.insert(name.to_string());
-            }
+            [name, ..] if in_type => drop(names.insert(name.to_string())),
             _ => {}
         }
+        in_type &= !line.starts_with('}');
     }
     names
-}
-
-/// A line that is a case of an enum, or a field: a name, then a comma, a colon or a
-/// bracket.
-fn starts_case(line: &str, name: &str) -> bool {
-    let rest = line.strip_prefix(name).unwrap_or("");
-    is_name(name) && rest.starts_with([',', ':', '{', '(', ' '])
 }
