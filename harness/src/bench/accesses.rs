@@ -24,6 +24,9 @@ const KINDS: [(&str, Functionality); 3] = [
 /// Steps in a turn.
 const STEPS: u64 = 1024;
 
+/// Bytes of a page.
+const PAGE: usize = 4096;
+
 /// Begins at a multiple of 1,024 bytes, so that what has no more bytes lies in one page:
 /// a store over a page's edge costs several nanoseconds, and where the stack begins
 /// changes from run to run.
@@ -46,7 +49,9 @@ pub fn step(report: &mut Report) {
             records: InOnePage([0; 4 * ACCESS]),
         };
         let mut file = InOnePage(RegisterFile::new(&start));
+        let kept = steps.put_aside(&mut file.0);
         let times = steps.race(&mut file.0);
+        drop(kept);
         steps.compare(&mut file.0);
         let what = format!("collect_copy_register_ops, {name}");
         report.call(&what, "original", times);
@@ -72,6 +77,23 @@ impl Steps {
         let [src, dst, count] = self.call(step);
         let (state, records) = (&mut self.state.0, &mut self.records.0);
         exported::collect_copy_register_ops(self.kind, step, src, dst, count, state, records)
+    }
+
+    /// The allocator gives the original one block at every step. Blocks that lie over a
+    /// page's edge are kept while the clock runs, so that it gives another.
+    fn put_aside(&self, file: &mut RegisterFile) -> Vec<Vec<MemwOperation>> {
+        let mut kept = Vec::new();
+        loop {
+            file.set_index(0);
+            let made = file.step(self.functionality, 0, self.call(0));
+            let made = made.expect("sound");
+            let start = made.as_ptr() as usize;
+            let end = start + size_of::<MemwOperation>() * made.capacity();
+            if start / PAGE == (end - 1) / PAGE {
+                return kept;
+            }
+            kept.push(made);
+        }
     }
 
     fn race(&mut self, file: &mut RegisterFile) -> Times {
