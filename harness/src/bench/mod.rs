@@ -197,7 +197,7 @@ fn answered(value: usize) -> Answer {
 
 /// Has the allocator keep large blocks, so that the original, which makes its own
 /// tables and lists, is not charged for fresh pages at every turn.
-fn keep_memory() {
+pub fn keep_memory() {
     const M_TRIM_THRESHOLD: i32 = -1;
     const M_MMAP_THRESHOLD: i32 = -3;
     unsafe extern "C" {

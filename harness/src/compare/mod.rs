@@ -5,6 +5,7 @@
 
 mod tally;
 
+use crate::bench::keep_memory;
 use crate::exported;
 use crate::generate::Generator;
 use crate::generate::programs::question_of;
@@ -38,6 +39,8 @@ pub fn run(seed: u64, seconds: u64, kinds: &[&str]) -> Result<(), String> {
     if here.is_empty() {
         exported::some()?;
     }
+    // Fresh pages for every long list would take half of the time.
+    keep_memory();
     let share = Duration::from_secs(seconds) / here.len().max(1) as u32;
     let (mut cases, mut mismatches) = (0, 0);
     let mut faults: Vec<String> = Vec::new();

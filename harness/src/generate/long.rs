@@ -94,16 +94,19 @@ impl Long {
     }
 }
 
-/// A length and a shape, half of them good.
+/// A length and a shape, mostly good.
 fn drawn(rng: &mut Rng) -> (usize, Shape) {
     let length = match rng.below(12) {
         0 => rng.pick(&EDGES),
         _ => log_scaled(rng, EDGES[2]),
     };
-    (
-        length,
-        rng.pick(&[Good, Good, Good, Good, Bad, Bad, Cut, Short]),
-    )
+    let shape = match rng.below(10) {
+        0 | 1 => Bad,
+        2 => Cut,
+        3 => Short,
+        _ => Good,
+    };
+    (length, shape)
 }
 
 /// A length up to the last, each number of binary digits as often as the others.
