@@ -10,7 +10,7 @@ use crate::oracle::records::{
 };
 use crate::oracle::{self, Answer};
 use crate::rng::Rng;
-use original::tables::copy::Functionality;
+use original::tables::copy::{CopyOperation, Functionality};
 use original::tables::memw::MemwOperation;
 use original::tables::trace_builder::{RegisterFile, Window, new_register_state, route};
 use std::hint::black_box;
@@ -154,49 +154,74 @@ pub fn expansion(report: &mut Report) {
 
 /// What lies in the buffers before the first turn.
 const JUNK: u64 = 1;
+/// The window of an expansion, and its gap.
+const CELLS: usize = 1 << 16;
+const GAP: u64 = 8;
 
 fn expand(kind: u64, functionality: Functionality, count: u64) -> Times {
-    const CELLS: usize = 1 << 16;
-    let gap = 8;
     // A Set's destination lies a gap further, so it moves a gap less.
-    let count = if kind == 1 { count - gap } else { count };
-    let dst = if kind == 1 { gap } else { 0 };
-    let mut rng = Rng::new(1);
-    let mut bytes = rng.many(CELLS, |rng| rng.below(256) as u8);
-    let mut stamps = rng.many(CELLS, |rng| rng.below(1000));
-    let mut window = Window::new(&bytes, &stamps);
-    let rows = count as usize / 8;
-    let mut ops = vec![JUNK; rows * OPERATION];
-    let mut accesses = vec![JUNK; 2 * rows * ACCESS];
-    let mut counts = [0; 2];
-    let mut answer = answered(0);
-
-    let mut ours = || {
-        let (bytes, stamps, counts) = (&mut bytes, &mut stamps, &mut counts);
-        let (ops, accesses) = (&mut ops, &mut accesses);
-        answer = black_box(exported::collect_copy_ops(
-            kind, 1000, 0, dst, count, gap, bytes, stamps, ops, accesses, counts,
-        ));
+    let (dst, count) = match kind {
+        1 => (GAP, count - GAP),
+        _ => (0, count),
     };
+    let mut lent = Expanded::new(count as usize / 8);
+    let mut window = Window::new(&lent.bytes, &lent.stamps);
     let mut made = None;
+    let mut ours = || lent.turn(kind, dst, count);
     let mut rust = || made = Some(window.expand(functionality, 1000, [0, dst, count]));
     ours();
     rust();
     let times = race_two(count as usize, &mut ours, &mut rust);
-
-    let (memw, rows) = made.expect("a turn was taken");
-    let flat_ops: Vec<u64> = rows.iter().flat_map(operation_record).collect();
-    let flat_accesses: Vec<u64> = memw.iter().flat_map(access_record).collect();
-    let cells: Vec<(u8, u64)> = bytes.into_iter().zip(stamps).collect();
+    let (accesses, ops) = made.expect("a turn was taken");
     assert!(
-        answer == answered(rows.len())
-            && counts == [rows.len(), memw.len()].map(|length| length as u64)
-            && is_front(&ops, &flat_ops)
-            && is_front(&accesses, &flat_accesses)
-            && (0..CELLS).all(|cell| cells[cell] == window.cell(cell)),
+        lent.is_as(&window, &ops, &accesses),
         "expansion: results differ"
     );
     times
+}
+
+/// What our side is lent, and its answer.
+struct Expanded {
+    bytes: Vec<u8>,
+    stamps: Vec<u64>,
+    ops: Vec<u64>,
+    accesses: Vec<u64>,
+    counts: [u64; 2],
+    answer: Answer,
+}
+
+impl Expanded {
+    fn new(rows: usize) -> Self {
+        let mut rng = Rng::new(1);
+        Self {
+            bytes: rng.many(CELLS, |rng| rng.below(256) as u8),
+            stamps: rng.many(CELLS, |rng| rng.below(1000)),
+            ops: vec![JUNK; rows * OPERATION],
+            accesses: vec![JUNK; 2 * rows * ACCESS],
+            counts: [JUNK; 2],
+            answer: answered(0),
+        }
+    }
+
+    #[rustfmt::skip]
+    fn turn(&mut self, kind: u64, dst: u64, count: u64) {
+        let Self { bytes, stamps, ops, accesses, counts, .. } = self;
+        self.answer = black_box(exported::collect_copy_ops(
+            kind, 1000, 0, dst, count, GAP, bytes, stamps, ops, accesses, counts,
+        ));
+    }
+
+    /// Whether all of it is what the original has.
+    fn is_as(&self, window: &Window, ops: &[CopyOperation], accesses: &[MemwOperation]) -> bool {
+        let flat_ops: Vec<u64> = ops.iter().flat_map(operation_record).collect();
+        let flat_accesses: Vec<u64> = accesses.iter().flat_map(access_record).collect();
+        let mut cells = self.bytes.iter().zip(&self.stamps).enumerate();
+        self.answer == answered(ops.len())
+            && self.counts == [ops.len(), accesses.len()].map(|length| length as u64)
+            && is_front(&self.ops, &flat_ops)
+            && is_front(&self.accesses, &flat_accesses)
+            && cells.all(|(address, (byte, stamp))| window.cell(address) == (*byte, *stamp))
+    }
 }
 
 /// Whether a buffer begins with the result and has junk after it.

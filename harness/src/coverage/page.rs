@@ -17,7 +17,7 @@ pub fn rows(page: &str) -> Vec<Row> {
             headings.clear();
         } else if headings.is_empty() {
             headings = cells(line);
-        } else if line.trim_matches(['|', '-', ' ', ':']) != "" {
+        } else if !line.trim_matches(['|', '-', ' ', ':']).is_empty() {
             rows.push(Row {
                 line: place + 1,
                 headings: headings.clone(),

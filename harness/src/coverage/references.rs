@@ -64,7 +64,7 @@ impl Reader<'_> {
         self.line = row.line;
         for (place, cell) in row.cells.iter().enumerate().skip(1) {
             let heading = row.headings.get(place).map_or("", String::as_str);
-            self.cell(cell, heading == "edit");
+            self.cell(cell, heading.starts_with("edit"));
         }
     }
 

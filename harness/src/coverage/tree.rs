@@ -76,7 +76,8 @@ fn defined(text: &str) -> BTreeSet<String> {
         let next = words.next().unwrap_or("");
         match word {
             "record" | "data" => drop(names.insert(next.to_string())),
-            _ if next == ":" => drop(names.insert(word.to_string())),
+            // A name that is a word of the language too stands in guillemets.
+            _ if next == ":" => drop(names.insert(word.trim_matches(['«', '»']).to_string())),
             _ => {}
         }
     }
