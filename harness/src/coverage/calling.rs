@@ -10,33 +10,26 @@ const HEADING: &str = "refuses with, in this order";
 pub fn faults(page: &str) -> Vec<String> {
     let mut listed: BTreeMap<String, Vec<u64>> = BTreeMap::new();
     for row in rows(page) {
-        if row
-            .headings
-            .last()
-            .is_some_and(|heading| heading == HEADING)
-        {
+        if row.headings.last().map(String::as_str) == Some(HEADING) {
             let refusals = refusals(&row, &listed);
-            let names = row.cells[0]
-                .split(',')
-                .map(|name| name.trim().trim_matches('`'));
-            listed.extend(names.map(|name| (name.to_string(), refusals.clone())));
+            for name in row.cells[0].split(',') {
+                let name = name.trim().trim_matches('`');
+                listed.insert(name.into(), refusals.clone());
+            }
         }
     }
-    let exported = FUNCTIONS.iter().filter(|f| f.0 != "callcheck");
-    let differs = |f: &&crate::functions::Function| listed.get(f.0).is_none_or(|l| l != f.2);
-    let differing = exported.clone().filter(differs);
-    let mut faults: Vec<String> = differing
-        .map(|f| {
-            format!(
-                "CALLING: {} does not refuse with {:?} here",
-                f.0,
-                listed.get(f.0)
-            )
-        })
-        .collect();
-    let known = |name: &str| exported.clone().any(|f| f.0 == name);
-    let unknown = listed.keys().filter(|name| !known(name));
-    faults.extend(unknown.map(|name| format!("CALLING: {name} is no exported function")));
+    let mut faults = Vec::new();
+    for (name, _, refusals) in FUNCTIONS.iter().filter(|f| f.0 != "callcheck") {
+        match listed.remove(*name) {
+            Some(numbers) if numbers == *refusals => {}
+            Some(numbers) => faults.push(format!(
+                "CALLING: {name} refuses with {numbers:?}, in the comparison with {refusals:?}"
+            )),
+            None => faults.push(format!("CALLING: no row for {name}")),
+        }
+    }
+    let others = listed.keys();
+    faults.extend(others.map(|name| format!("CALLING: {name} is no exported function")));
     faults
 }
 
