@@ -22,8 +22,10 @@ use tally::Tally;
 
 /// Where mismatches are saved.
 const MISMATCHES: &str = concat!(env!("CARGO_MANIFEST_DIR"), "/mismatches");
-/// Of each function, so many mismatches are saved; all are counted.
+/// Of each function, so many mismatches are saved, but none after questions of so many
+/// numbers in all; all are counted.
 const SAVED: u64 = 20;
+const SAVED_NUMBERS: usize = 100_000;
 /// Cases between two looks at the clock.
 const BATCH: u64 = 16;
 /// A function is asked past its share of the time until all has occurred that should, or
@@ -94,8 +96,9 @@ fn first(name: &str) -> Result<Vec<Question>, String> {
 /// One function's run.
 struct Comparison {
     tally: Tally,
-    /// Where its mismatches are saved.
+    /// Where its mismatches are saved, and the numbers of the questions saved so far.
     file: PathBuf,
+    saved: usize,
     /// What our last call left, where the next goes on from it.
     left: Vec<Vec<u64>>,
 }
@@ -106,6 +109,7 @@ impl Comparison {
         let mut comparison = Self {
             tally: Tally::new(name),
             file: Path::new(MISMATCHES).join(format!("{name}-{seed}")),
+            saved: 0,
             left: vec![],
         };
         let mut generator =
@@ -149,9 +153,10 @@ impl Comparison {
         inputs: &[Vec<u64>],
     ) -> io::Result<()> {
         self.tally.mismatches += 1;
-        if self.tally.mismatches > SAVED {
+        if self.tally.mismatches > SAVED || self.saved > SAVED_NUMBERS {
             return Ok(());
         }
+        self.saved += asked.size();
         let inputs: Vec<Argument> = inputs.iter().cloned().map(Argument::List).collect();
         let lines = [
             asked.line(),
