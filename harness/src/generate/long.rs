@@ -43,8 +43,14 @@ const FORCED: [(usize, Shape); 8] = [
 
 /// Records that a short question saves up for the next long one. A long question of n
 /// records comes once n are saved, which bounds the work: on the average a question has
-/// no more than this beside its own few.
-const SAVED: usize = 16;
+/// no more than this beside its own few. Bytes of an input cost little beside the start
+/// of the program.
+fn saved_by(kind: &str) -> usize {
+    match kind {
+        "callcheck" => 1024,
+        _ => 16,
+    }
+}
 
 /// The long questions of one kind.
 pub struct Long {
@@ -75,7 +81,7 @@ impl Long {
     pub fn question(&mut self, kind: &str) -> Option<(Question, Option<Reply>)> {
         let (length, shape) = self.next;
         if self.is_past_forced() && self.saved < length {
-            self.saved += SAVED;
+            self.saved += saved_by(kind);
             return None;
         }
         let renew = !self.is_past_forced() || !self.rng.once_in(3);
