@@ -4,7 +4,6 @@ use Prim.Native.Nat.{ℕ}
 use mathlib.Core.List.{List}
 use mathlib.Core.Bool.{Bool, cond}
 use lib.Dec.{eqb, ltb}
-use Rattle.call.specs.declared.CopyCall.{CopyCall}
 use Rattle.call.specs.declared.Functionality.{Functionality}
 use Rattle.call.specs.declared.Functionality.the-variants.{Copy, Set, Write}
 
@@ -41,10 +40,6 @@ noKind k = ltb 2 k
 -- the kind of a number that is at most 2
 abbrev pub kindOf : ℕ → Functionality
 kindOf k = cond (eqb k 0) Copy (cond (eqb k 1) Set Write)
-
--- the call that the code's struct holds
-abbrev pub callOf : CopyCall → Call
-callOf c = record { kind = c .kind; stamp = c .timestamp; src = c .src; dst = c .dst; count = c .count }
 
 -- the call that is handed in
 abbrev pub callWith : Functionality → ℕ → ℕ → ℕ → ℕ → Call

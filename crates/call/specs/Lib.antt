@@ -3,3 +3,4 @@ pub mod Ops
 pub mod Flat
 pub mod Cuts
 pub mod Instances
+pub mod Inner

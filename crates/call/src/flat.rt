@@ -1,7 +1,7 @@
 // Internal to the workspace, not open to callers: the call in a record. Assumes nothing but what each `requires` says.
 ghost use mathlib.Core.Path.{_≡_};
 ghost use lib.ListN.{length};
-ghost use Rattle.call.specs.Calls.{callOf};
+ghost use Rattle.call.specs.Inner.{callOf};
 ghost use Rattle.call.specs.Flat.{HANDED-WIDTH, callFrom};
 use crate::CopyCall;
 

@@ -12,7 +12,7 @@ use Rattle.expansion.specs.declared.ExpansionAnswer.the-variants.{Expanded}
 use Rattle.expansion.proofs.Outcome.{Refusing, refused-as}
 use Rattle.text.specs.declared.Line.{Line}
 use Rattle.text.specs.declared.Line.the-variants.{Call, Other}
-use Rattle.callcheck_text.specs.Step.{stepOf, lineStep, lineAfter}
+use Rattle.callcheck_text.specs.Inner.{stepOf, lineStep, lineAfter}
 use Rattle.callcheck_text.specs.declared.Step.the-variants.{Rows, Stop}
 
 -- a line of another form

@@ -23,7 +23,8 @@ use Rattle.text.specs.Lines.{lines, gapOf}
 use Rattle.text.specs.declared.Parsed.the-variants.{Number, Bad}
 use Rattle.text.specs.RowLines.{rowsText, passedText, refusedText}
 use Rattle.text.proofs.Wrote.{Wrote}
-use Rattle.callcheck_text.specs.Run.{done, linesFrom, endingOf, rowsDone, ROWS}
+use Rattle.callcheck_text.specs.Run.{done, linesFrom, ROWS}
+use Rattle.callcheck_text.specs.Inner.{endingOf, rowsDone}
 use Rattle.callcheck_text.specs.Output.{TABLE-ROOM, checkedRows, verdictOf, verdictText, endingText, start, outputOf}
 use Rattle.callcheck_text.specs.declared.Ran.{Ran}
 use Rattle.callcheck_text.specs.declared.Ran.the-variants.{Done, Refused}

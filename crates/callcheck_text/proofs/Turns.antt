@@ -26,7 +26,7 @@ use Rattle.text.specs.Lines.{lines, callLine}
 use Rattle.text.specs.declared.Line.{Line}
 use Rattle.text.specs.declared.Line.the-variants.{Call, Other}
 use Rattle.text.proofs.Pieces.{lines-at, rest-is}
-use Rattle.callcheck_text.specs.Step.{stepOf, lineStep, lineAfter}
+use Rattle.callcheck_text.specs.Inner.{stepOf, lineStep, lineAfter}
 use Rattle.callcheck_text.specs.Run.{Ending, done, refused, inFront, onAnswer, onLine, linesFrom}
 use Rattle.callcheck_text.specs.declared.Step.{Step}
 use Rattle.callcheck_text.specs.declared.Step.the-variants.{Rows, Stop}

@@ -1,4 +1,4 @@
-pub mod Step
+pub mod Inner
 pub mod Run
 pub mod Output
 pub mod Examples

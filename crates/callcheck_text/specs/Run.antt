@@ -6,7 +6,7 @@ use Prim.Native.Nat.{ℕ, _+_, _-_, _*_, _≤_, _<_}
 use mathlib.Core.Bool.{cond}
 use mathlib.Core.List.{List, [], _∷_, _++_}
 use lib.Dec.{eqb}
-use lib.ListN.{length, take}
+use lib.ListN.{length}
 use Rattle.answer.specs.declared.Answer.{Answer}
 use Rattle.call.specs.Calls.{callWith}
 use Rattle.call.specs.Calls as calls
@@ -19,8 +19,6 @@ use Rattle.calls_in_turn.specs.InTurn.{leaves}
 use Rattle.text.specs.Lines.{callLine}
 use Rattle.text.specs.declared.Line.{Line}
 use Rattle.text.specs.declared.Line.the-variants.{Call, Other}
-use Rattle.callcheck_text.specs.declared.Ran.{Ran}
-use Rattle.callcheck_text.specs.declared.Ran.the-variants.{Done, Refused}
 
 -- live rows that there may be
 abbrev pub ROWS : ℕ
@@ -68,12 +66,3 @@ NineIsRows =
     (gap rows : ℕ) (c : calls.Call) (l : Lent) → length (l .ops) ≡ OP-WIDTH * (ROWS - rows) → length (l .accesses) ≡ ACCESSES-ROOM → rows ≤ ROWS
     → let number = answered (under gap) (tryOf c l) .number in
     (number ≡ 9 → ROWS < rows + opCount c) × (number ≡ 0 → rows + opCount c ≤ ROWS)
-
--- the ending that the code's answer tells of, its buffer of operation records with it
-abbrev pub endingOf : Ran → List ℕ → Ending
-endingOf (Done rows) ops = done (take (OP-WIDTH * rows) ops)
-endingOf (Refused number line) ops = refused number line
-
-abbrev pub rowsDone : Ran → ℕ
-rowsDone (Done rows) = rows
-rowsDone (Refused number line) = 0

@@ -16,7 +16,7 @@ use Rattle.call.specs.Flat.{HANDED-WIDTH}
 use Rattle.expansion.specs.Tries.{Setting, Lengths}
 use Rattle.calls_in_turn.specs.InTurn.{callsFrom, callsIn}
 use Rattle.calls_in_turn.specs.Counts.{behind, allRecords, allCalls}
-use Rattle.calls_in_turn.specs.Steps.{addedBy}
+use Rattle.calls_in_turn.specs.Inner.{addedBy}
 use Rattle.calls_in_turn.proofs.Records.{behind-none, behind-more, records-step, calls-step}
 
 -- the records from number k on, of n

@@ -17,7 +17,7 @@ use Rattle.expansion.specs.Refusals.{answered, ExpansionNumbers}
 use Rattle.expansion.specs.Expansion.{Done}
 use Rattle.calls_in_turn.specs.Accepted.{opsWritten, acceptedOps}
 use Rattle.calls_in_turn.specs.InTurn.{callsFrom, callsIn, behindOps, leaves, triesOf, lastLeaves, allExpanded}
-use Rattle.calls_in_turn.specs.Steps.{writtenBy, leftBy, Turned}
+use Rattle.calls_in_turn.specs.Inner.{writtenBy, leftBy, Turned}
 use Rattle.calls_in_turn.proofs.Written.{written-length}
 use Rattle.calls_in_turn.proofs.Behind.{partOf, backIn, stood}
 use Rattle.calls_in_turn.proofs.Records.{ops-step, left-step, left-lengths}

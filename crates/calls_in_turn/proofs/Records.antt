@@ -15,7 +15,7 @@ use Rattle.expansion.specs.Refusals.{answerBy}
 use Rattle.calls_in_turn.specs.Accepted.{opsWritten, acceptedOps}
 use Rattle.calls_in_turn.specs.InTurn.{callsFrom, leaves, triesOf, lastLeaves}
 use Rattle.calls_in_turn.specs.Counts.{behind, allRecords, allCalls}
-use Rattle.calls_in_turn.specs.Steps.{addedBy, writtenBy, leftBy}
+use Rattle.calls_in_turn.specs.Inner.{addedBy, writtenBy, leftBy}
 use Rattle.calls_in_turn.proofs.Written.{written-length, leaves-lengths, ops-more}
 
 pub behind-none : (n : Lengths) → behind n 0 ≡ n

@@ -1,4 +1,4 @@
 pub mod Accepted
 pub mod InTurn
 pub mod Counts
-pub mod Steps
+pub mod Inner

@@ -8,7 +8,7 @@ ghost use Rattle.call.specs.Flat.{HANDED-WIDTH};
 ghost use Rattle.expansion.specs.Tries.{under, lengthsAre};
 ghost use Rattle.calls_in_turn.specs.InTurn.{callsIn};
 ghost use Rattle.calls_in_turn.specs.Counts.{allRecords, allCalls};
-ghost use Rattle.calls_in_turn.specs.Steps.{addedBy};
+ghost use Rattle.calls_in_turn.specs.Inner.{addedBy};
 use crate::Counts;
 use call::HANDED_WIDTH;
 use call::OP_WIDTH;

@@ -6,7 +6,7 @@ ghost use lib.ListN.{length};
 ghost use Rattle.call.specs.Ops.{OP-WIDTH};
 ghost use Rattle.expansion.specs.Tries.{under, lent};
 ghost use Rattle.calls_in_turn.specs.InTurn.{callsIn, allExpanded};
-ghost use Rattle.calls_in_turn.specs.Steps.{Turned};
+ghost use Rattle.calls_in_turn.specs.Inner.{Turned};
 use call::HANDED_WIDTH;
 use call::OP_WIDTH;
 use call::flat::call_from;

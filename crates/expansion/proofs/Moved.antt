@@ -21,10 +21,12 @@ use Rattle.call.proofs.Cuts.{nothing-cut}
 use Rattle.access.specs.Access.{Access, accessRecord, ACCESS-WIDTH}
 use Rattle.window.specs.Window.{Window, windowOf, readAccess, writeAccess}
 use Rattle.window.proofs.Window.{length-cells}
-use Rattle.expansion_rows.specs.Rows.{Row, rowsBy, widthsOf, rowsOf}
+use Rattle.expansion_rows.specs.Rows.{Row, rowsBy, widthsOf}
+use Rattle.expansion_rows.specs.Inner.{rowsOf}
 use Rattle.expansion_rows.specs.Turns.{inverted, readStamp, writeStamp, valueAt, turnAccesses, rowOps, passBytes, passStamps, passAccesses}
-use Rattle.expansion_rows.specs.Held.{heldAllBytes, heldAllStamps, heldAccesses, opsIn}
-use Rattle.expansion_rows.specs.Inside.{CallInside, PassInside, HeldInside}
+use Rattle.expansion_rows.specs.Held.{heldAllBytes, heldAllStamps, heldAccesses}
+use Rattle.expansion_rows.specs.Inner.{opsIn}
+use Rattle.expansion_rows.specs.Inner.{CallInside, PassInside, HeldInside}
 use Rattle.expansion_rows.proofs.Widths.{widths-cut}
 use Rattle.expansion_rows.proofs.RowList.{rows-length, rows-none}
 use Rattle.expansion_rows.proofs.Lengths.{row-ops-length, pass-bytes-length, pass-stamps-length, pass-accesses-length}

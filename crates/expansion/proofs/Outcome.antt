@@ -17,7 +17,8 @@ use Rattle.call.specs.Calls.{Call}
 use Rattle.call.specs.Ops.{opRecord, OP-WIDTH}
 use Rattle.access.specs.Access.{accessRecord}
 use Rattle.window.specs.Window.{windowOf}
-use Rattle.expansion_rows.specs.Rows.{widthsOf, rowsOf}
+use Rattle.expansion_rows.specs.Rows.{widthsOf}
+use Rattle.expansion_rows.specs.Inner.{rowsOf}
 use Rattle.expansion_rows.specs.Turns.{passBytes, passStamps}
 use Rattle.expansion_rows.proofs.Lengths.{pass-bytes-length, pass-stamps-length, held-bytes-length, held-stamps-length}
 use Rattle.expansion.specs.Tries.{Setting, Lent, Lengths, lengthsAre, lengths, Try}

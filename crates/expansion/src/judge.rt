@@ -4,7 +4,7 @@ ghost use mathlib.Core.Path.{_≡_};
 ghost use Prim.Native.Nat.{_+_, _-_, _*_, _^_, _≤_, _<_};
 ghost use lib.Dec.{ltb};
 ghost use lib.ListN.{length};
-ghost use Rattle.call.specs.Calls.{callOf};
+ghost use Rattle.call.specs.Inner.{callOf};
 ghost use Rattle.expansion_rows.specs.Rows.{widthsOf};
 ghost use Rattle.expansion.specs.Tries.{setting, lengthsAre};
 ghost use Rattle.expansion.specs.Refusals.{opCount, accessCount, notGapApart, pastIndex, outsideWindow, answerBy, withAccesses, expansionNumbers};

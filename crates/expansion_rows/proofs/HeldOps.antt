@@ -23,8 +23,8 @@ use Rattle.window.proofs.Window.{length-cells}
 use Rattle.window.proofs.Bytes.{cells-bytes}
 use Rattle.expansion_rows.specs.Rows.{Row, rowWith, rowsBy}
 use Rattle.expansion_rows.specs.Turns.{turnBytes, rowOp, rowOps}
-use Rattle.expansion_rows.specs.Held.{opsIn}
-use Rattle.expansion_rows.specs.Inside.{CallInside, HeldInside}
+use Rattle.expansion_rows.specs.Inner.{opsIn}
+use Rattle.expansion_rows.specs.Inner.{CallInside, HeldInside}
 use Rattle.expansion_rows.proofs.OneTurn.{read-bytes}
 
 -- Records there and back

@@ -16,9 +16,10 @@ use Rattle.call.specs.Cuts.{rest}
 use Rattle.call.proofs.Cuts.{width-pos, width-eight}
 use Rattle.access.specs.Access.{ACCESS-WIDTH, accessRecord}
 use Rattle.window.specs.Window.{Window, windowOf}
-use Rattle.expansion_rows.specs.Rows.{Row, rowWith, copyRowWidth, widthsOf, rowsOf}
+use Rattle.expansion_rows.specs.Rows.{Row, rowWith, copyRowWidth, widthsOf}
+use Rattle.expansion_rows.specs.Inner.{rowsOf}
 use Rattle.expansion_rows.specs.Turns.{inverted, turnBytes, turnStamps, turnAccesses, rowOp, rowOps, passBytes, passStamps, passAccesses}
-use Rattle.expansion_rows.specs.Inside.{PassInside}
+use Rattle.expansion_rows.specs.Inner.{PassInside}
 use Rattle.expansion_rows.proofs.Width.{width-cases, width-within}
 use Rattle.expansion_rows.proofs.Widths.{widths-next}
 use Rattle.expansion_rows.proofs.RowList.{rowsFrom, rows-none, rows-next}

@@ -15,8 +15,9 @@ use Rattle.call.specs.Calls.{Op}
 use Rattle.call.specs.Ops.{opOf, OP-WIDTH}
 use Rattle.access.specs.Access.{ACCESS-WIDTH, accessRecord}
 use Rattle.window.specs.Window.{windowOf}
-use Rattle.expansion_rows.specs.Held.{heldBytes, heldStamps, heldAccess, heldAllBytes, heldAllStamps, heldAccesses, opsIn}
-use Rattle.expansion_rows.specs.Inside.{HeldInside}
+use Rattle.expansion_rows.specs.Held.{heldBytes, heldStamps, heldAccess, heldAllBytes, heldAllStamps, heldAccesses}
+use Rattle.expansion_rows.specs.Inner.{opsIn}
+use Rattle.expansion_rows.specs.Inner.{HeldInside}
 
 -- The records that are left of n, from record k on
 

@@ -1,11 +1,8 @@
 -- The deferred writes of a Copy: those of its operation records, in their order, once all rows have read. The old words and stamps of
 -- each are as they stand when it is done. Assumes nothing.
 use Prim.Native.Nat.{ℕ}
-use mathlib.Core.List.{List, [], _∷_, map}
-use Rattle.lists.specs.Lists.{listed}
-use Rattle.records.specs.Records.{recordAt}
+use mathlib.Core.List.{List, [], _∷_}
 use Rattle.call.specs.Calls.{Op}
-use Rattle.call.specs.Ops.{opOf, OP-WIDTH}
 use Rattle.access.specs.Access.{Access}
 use Rattle.window.specs.Window.{Window, windowOf, writeBytes, writeStamps, writeAccess}
 use Rattle.expansion_rows.specs.Turns.{writeStamp}
@@ -33,7 +30,3 @@ heldAllStamps (o ∷ os) stamps = heldAllStamps os (heldStamps o stamps)
 unfoldable pub heldAccesses : List Op → Window → List Access
 heldAccesses [] m = []
 heldAccesses (o ∷ os) m = heldAccess o m ∷ heldAccesses os (windowOf (heldBytes o (m .bytes)) (heldStamps o (m .stamps)))
-
--- the first n operation records of a list of numbers
-abbrev pub opsIn : List ℕ → ℕ → List Op
-opsIn l n = map opOf (listed (recordAt OP-WIDTH l) 0 n)

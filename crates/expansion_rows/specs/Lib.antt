@@ -1,5 +1,5 @@
 pub mod Rows
 pub mod Turns
 pub mod Held
-pub mod Inside
+pub mod Inner
 pub mod RowsCut

@@ -34,7 +34,3 @@ widthsWithin (suc n) c = cond (eqb (c .count) 0) [] (copyRowWidth c ∷ widthsWi
 -- all of them: each row moves a byte, so there are at most as many rows as bytes
 unfoldable pub widthsOf : Call → List ℕ
 widthsOf c = widthsWithin (c .count) c
-
--- the rows of a call in the expansion; an empty call has none here
-abbrev pub rowsOf : Call → List Row
-rowsOf c = rowsBy c 1 (widthsOf c)

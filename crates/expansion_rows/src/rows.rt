@@ -5,7 +5,7 @@ ghost use Prim.Native.Nat.{_+_, _≤_, _<_, _^_};
 ghost use lib.Dec.{leb};
 ghost use lib.ListN.{length};
 ghost use Rattle.words.specs.Words.{bit};
-ghost use Rattle.call.specs.Calls.{callOf};
+ghost use Rattle.call.specs.Inner.{callOf};
 ghost use Rattle.call.specs.Ops.{opRecord};
 ghost use Rattle.call.specs.Cuts.{rest};
 ghost use Rattle.expansion_rows.specs.Rows.{copyRowWidth, widthsOf};

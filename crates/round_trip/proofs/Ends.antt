@@ -30,7 +30,7 @@ use Rattle.calls_in_turn.specs.InTurn.{callsIn, allExpanded}
 use Rattle.calls_in_turn.proofs.Counted.{records-fit}
 use Rattle.round_trip.specs.Trip.{TripLent, Trip, settingOf, recordsHanded, tableMade, written}
 use Rattle.round_trip.specs.Trip.{RoundTripNumbers, tripNumbers, roundTripNumbers, tripRun, tripAfter, Ended}
-use Rattle.round_trip.specs.Legs.{decided, foretold, Tabled}
+use Rattle.round_trip.specs.Inner.{decided, foretold, Tabled}
 use Rattle.round_trip.specs.RoundTrip.{TypedTrip}
 use Rattle.round_trip.specs.declared.RoundTripAnswer.{RoundTripAnswer}
 use Rattle.round_trip.specs.declared.RoundTripAnswer.the-variants.{Passed, TooManyRecords, NotWhole, BufferShort}

@@ -41,7 +41,7 @@ use Rattle.whole_calls.proofs.Accepted.{cutTry, tries-fit, tries-wrote}
 use Rattle.whole_calls.proofs.Demand.{demand3}
 use Rattle.round_trip.specs.Trip.{Trip, settingOf, tries, recordsHanded, callsHanded, maker, written, reader}
 use Rattle.round_trip.specs.Trip.{RoundTripNumbers, refusedBy, fromReader, onMaker, stepsNumbers, tripNumbers, roundTripNumbers}
-use Rattle.round_trip.specs.Legs.{decided, foretold}
+use Rattle.round_trip.specs.Inner.{decided, foretold}
 use Rattle.round_trip.specs.RoundTrip.{TypedTrip, callsCount, GoodList}
 use Rattle.round_trip.specs.declared.RoundTripAnswer.{RoundTripAnswer}
 use Rattle.round_trip.specs.declared.RoundTripAnswer.the-variants.{TooManyRecords, NotWhole, BufferShort}

@@ -1,4 +1,4 @@
 pub mod Trip
-pub mod Legs
+pub mod Inner
 pub mod RoundTrip
 pub mod Instances

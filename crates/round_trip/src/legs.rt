@@ -5,7 +5,7 @@ ghost use Prim.Native.Nat.{_*_, _^_, _<_};
 ghost use Rattle.call.specs.Flat.{CALL-WIDTH};
 ghost use Rattle.expansion.specs.Tries.{lengthsAre};
 ghost use Rattle.round_trip.specs.Trip.{tripLent, tripOf, tripRun};
-ghost use Rattle.round_trip.specs.Legs.{decided, foretold, Tabled};
+ghost use Rattle.round_trip.specs.Inner.{decided, foretold, Tabled};
 use crate::RoundTripAnswer;
 use call::CALL_WIDTH;
 use call::HANDED_WIDTH;

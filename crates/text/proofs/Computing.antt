@@ -2,7 +2,8 @@
 -- Assumes nothing.
 use Rattle.call.proofs.Computing as call
 use Rattle.text.specs.Pieces.{indexOf, before, after}
-use Rattle.text.specs.Numbers.{isDigit, allDigits, decimalFrom, isNumber, numberOf, digitOf}
+use Rattle.text.specs.Numbers.{isDigit, allDigits, decimalFrom, isNumber, numberOf}
+use Rattle.text.specs.Inner.{digitOf}
 use Rattle.text.specs.Lines.{onto, lines, wordOf, gapOf, callLine}
 use Rattle.text.specs.RowLines.{digitsBy, decimalText, fieldsText, kindText, rowText, rowsText, passedText, refusedText}
 

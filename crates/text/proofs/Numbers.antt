@@ -10,7 +10,8 @@ use borrow.Author.Tests.{lt-ltb, le-ltb, ltb-true, ltb-false, le-leb, lt-leb}
 use lib.ListN.{length, drop, getD, drop-of-length-le}
 use lib.Seq.{drop-cons}
 use lib.Dec.{ltb, leb}
-use Rattle.text.specs.Numbers.{TOP, isDigit, allDigits, decimalFrom, digitOf, isNumber, numberOf}
+use Rattle.text.specs.Numbers.{TOP, isDigit, allDigits, decimalFrom, isNumber, numberOf}
+use Rattle.text.specs.Inner.{digitOf}
 use Rattle.text.specs.declared.Parsed.{Parsed}
 use Rattle.text.specs.declared.Parsed.the-variants.{Number, Bad}
 use Rattle.text.proofs.Pieces.{and-false}

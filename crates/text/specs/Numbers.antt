@@ -32,7 +32,3 @@ isNumber l = leb 1 (length l) && (leb (length l) 20 && (allDigits l && ltb (deci
 -- the number that a whole text is
 unfoldable pub numberOf : List ℕ → Parsed
 numberOf l = cond (isNumber l) (Number (decimalFrom 0 l)) Bad
-
--- v with one digit more, if b is a digit and the number is below 2^64: a step of the reading loop
-unfoldable pub digitOf : ℕ → ℕ → Parsed
-digitOf v b = cond (isDigit b) (cond (ltb (10 * v + (b - 48)) TOP) (Number (10 * v + (b - 48))) Bad) Bad

@@ -9,7 +9,8 @@ ghost use Prim.Native.Nat.{_≤_, _<_};
 ghost use lib.ListN.{length};
 ghost use Rattle.lists.specs.Lists.{same};
 ghost use Rattle.text.specs.Pieces.{indexOf, before, after};
-ghost use Rattle.text.specs.Numbers.{numberOf, digitOf};
+ghost use Rattle.text.specs.Numbers.{numberOf};
+ghost use Rattle.text.specs.Inner.{digitOf};
 ghost use Rattle.text.specs.Lines.{wordOf, gapOf, callLine};
 use call::Functionality;
 

@@ -11,7 +11,7 @@ use Rattle.call.proofs.GoodCalls.{good-whole}
 use Rattle.expansion.specs.Tries.{under, lengthsAre}
 use Rattle.expansion.specs.Refusals.{answerBy, ExpansionNumbers}
 use Rattle.expansion.proofs.Outcome.{answer-room}
-use Rattle.calls_in_turn.specs.Steps.{addedBy}
+use Rattle.calls_in_turn.specs.Inner.{addedBy}
 use Rattle.calls_in_turn.proofs.ahead.records_of.Statement.{statement}
 use Rattle.calls_in_turn.proofs.ahead.records_of.Tie as tie
 

@@ -3,7 +3,7 @@
 use borrow.Author.Needs.{needs}
 use native.Mathlib.Omega.{arith}
 use denote.Ref.{now}
-use Rattle.call.specs.Calls.{callOf}
+use Rattle.call.specs.Inner.{callOf}
 use Rattle.words.specs.Words.{Bytes}
 use Rattle.words.proofs.Digits.{below-of}
 use Rattle.expansion.proofs.Moved.{pass-inside, write-inside, expanded-copy}

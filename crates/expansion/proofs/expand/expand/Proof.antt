@@ -5,7 +5,7 @@ use mathlib.Core.Path.{_≡_, sym, _∙_}
 use Prim.Native.Nat.{_^_, _<_}
 use native.Mathlib.Omega.{arith}
 use denote.Ref.{now}
-use Rattle.call.specs.Calls.{callOf}
+use Rattle.call.specs.Inner.{callOf}
 use Rattle.expansion.specs.Tries.{Setting, setting, lent, Try, tryOf}
 use Rattle.expansion.specs.Refusals.{opCount}
 use Rattle.expansion.proofs.Outcome.{Taken, taken-by, refused-by}

@@ -5,7 +5,7 @@ use mathlib.Core.List.{List}
 use Prim.Native.Nat.{ℕ, _<_}
 use native.Mathlib.Omega.{arith}
 use denote.Ref.{now}
-use Rattle.call.specs.Calls.{callOf}
+use Rattle.call.specs.Inner.{callOf}
 use Rattle.expansion.specs.Tries.{lent}
 use Rattle.expansion.proofs.Moved.{empty-room, pass-inside, expanded-empty, expanded-pass}
 use Rattle.expansion.proofs.expand.move_call.Statement.{statement}

@@ -6,7 +6,8 @@ use Prim.Native.Nat.{ℕ, _^_, _≤_, _<_}
 use native.Mathlib.Omega.{arith}
 use borrow.Author.Tests.{le-leb, lt-leb, eq-eqb, ne-eqb, ltb-false}
 use Rattle.lists.proofs.Tests.{neither}
-use Rattle.call.specs.Calls.{Call, callOf}
+use Rattle.call.specs.Calls.{Call}
+use Rattle.call.specs.Inner.{callOf}
 use Rattle.expansion.specs.Tries.{Setting, setting, Lengths, lengthsAre}
 use Rattle.expansion.specs.Refusals.{opCount, accessCount, gapTooLarge, badWindow, lastStamp, notGapApart, pastIndex, outsideWindow}
 use Rattle.expansion.specs.Refusals.{bufferShort, refusals, answerBy, withAccesses}

@@ -3,7 +3,8 @@
 use borrow.Author.Needs.{needs}
 use mathlib.Core.Path.{ap}
 use native.Mathlib.Omega.{arith}
-use Rattle.call.specs.Calls.{Call, callOf}
+use Rattle.call.specs.Calls.{Call}
+use Rattle.call.specs.Inner.{callOf}
 use Rattle.call.proofs.Cuts.{width-pos}
 use Rattle.expansion_rows.proofs.Width.{width-cases, width-within}
 use Rattle.expansion_rows.proofs.Widths.{RowCountAt, row-count-start, row-count-turn, row-count-end}

@@ -6,7 +6,8 @@ use Prim.Native.Nat.{_+_, _-_, _*_}
 use native.Mathlib.Omega.{arith}
 use denote.Ref.{now}
 use Rattle.lists.proofs.Store.{run-length}
-use Rattle.call.specs.Calls.{Call, callOf}
+use Rattle.call.specs.Calls.{Call}
+use Rattle.call.specs.Inner.{callOf}
 use Rattle.call.specs.Ops.{OP-WIDTH}
 use Rattle.access.specs.Access.{ACCESS-WIDTH}
 use Rattle.expansion_rows.proofs.ReadLoop.{PassAt, Ahead, pass-start, ahead, pass-turn, pass-end}

@@ -5,7 +5,8 @@ use mathlib.Core.List.{List}
 use Prim.Native.Nat.{ℕ}
 use lib.Dec.{leb}
 use Rattle.words.specs.Words.{bit}
-use Rattle.call.specs.Calls.{Op, callOf}
+use Rattle.call.specs.Calls.{Op}
+use Rattle.call.specs.Inner.{callOf}
 use Rattle.call.specs.Ops.{opRecord}
 use Rattle.expansion_rows.proofs.turns.row_turn.Statement.{statement}
 use Rattle.expansion_rows.proofs.turns.row_turn.Tie as tie

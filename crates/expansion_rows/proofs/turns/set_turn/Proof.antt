@@ -3,7 +3,7 @@
 use borrow.Author.Needs.{needs}
 use Prim.Native.Nat.{_*_}
 use denote.Ref.{now}
-use Rattle.call.specs.Calls.{callOf}
+use Rattle.call.specs.Inner.{callOf}
 use Rattle.access.specs.Access.{ACCESS-WIDTH}
 use Rattle.expansion_rows.proofs.OneTurn.{set-law, two-parts}
 use Rattle.expansion_rows.proofs.turns.set_turn.Statement.{statement}

@@ -2,7 +2,7 @@
 use borrow.Author.Needs.{needs}
 use mathlib.Core.Path.{sym, _∙_}
 use denote.Ref.{now}
-use Rattle.call.specs.Calls.{callOf}
+use Rattle.call.specs.Inner.{callOf}
 use Rattle.expansion_rows.proofs.OneTurn.{set-room, read-room, read-bytes, read-stamps, read-accesses}
 use Rattle.expansion_rows.proofs.turns.turn.Statement.{statement}
 use Rattle.expansion_rows.proofs.turns.turn.Tie as tie

@@ -9,7 +9,7 @@ use Rattle.records.specs.Records.{LIMIT}
 use Rattle.records.specs.RowCount.{rowCount}
 use Rattle.records.proofs.RowCount.{row-count-le}
 use Rattle.copy_row.specs.Columns.{COLUMNS}
-use Rattle.round_trip.specs.Legs.{decided}
+use Rattle.round_trip.specs.Inner.{decided}
 use Rattle.round_trip.specs.declared.RoundTripAnswer.the-variants.{Passed}
 use Rattle.round_trip.proofs.legs.decide.Statement.{statement}
 use Rattle.round_trip.proofs.legs.decide.Tie as tie

@@ -9,7 +9,7 @@ use denote.Ref.{now}
 use lib.ListN.{length}
 use Rattle.records.specs.Records.{LIMIT, recordCount}
 use Rattle.call.specs.Flat.{HANDED-WIDTH}
-use Rattle.round_trip.specs.Legs.{decided, foretold}
+use Rattle.round_trip.specs.Inner.{decided, foretold}
 use Rattle.round_trip.proofs.legs.foretell.Statement.{statement}
 use Rattle.round_trip.proofs.legs.foretell.Tie as tie
 

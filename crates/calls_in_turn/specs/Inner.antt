@@ -1,4 +1,4 @@
--- One record of a flat list of calls: definitions that the contracts of inner functions cite. Assumes nothing.
+-- One record of a flat list of calls: cited by the contracts of inner functions alone. Assumes nothing.
 use mathlib.Core.Path.{_≡_}
 use mathlib.Core.Bool.{cond}
 use mathlib.Core.List.{List, []}

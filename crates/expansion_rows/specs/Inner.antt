@@ -1,16 +1,22 @@
--- What the code that moves bytes asks of its caller, and the refusals grant: the cells lie in the window, the stamps fit. Assumes
--- nothing.
+-- What the code that moves bytes asks of its caller, and the refusals grant: the cells lie in the window, the stamps fit. Cited by the
+-- contracts of inner functions alone. Assumes nothing.
 use mathlib.Core.Path.{_≡_}
 use Prim.Native.Nat.{ℕ, _+_, _*_, _^_, _≤_, _<_}
-use mathlib.Core.List.{List}
+use mathlib.Core.List.{List, map}
 use lib.ListN.{length}
+use Rattle.lists.specs.Lists.{listed}
 use Rattle.words.specs.Words.{Bytes}
+use Rattle.records.specs.Records.{recordAt}
 use Rattle.call.specs.Calls.{Call, Op}
-use Rattle.call.specs.Ops.{OP-WIDTH}
+use Rattle.call.specs.Ops.{OP-WIDTH, opOf}
 use Rattle.access.specs.Access.{ACCESS-WIDTH}
 use Rattle.window.specs.Window.{windowOf}
-use Rattle.expansion_rows.specs.Rows.{widthsOf, rowsOf}
+use Rattle.expansion_rows.specs.Rows.{Row, rowsBy, widthsOf}
 use Rattle.expansion_rows.specs.Turns.{writeStamp, passAccesses}
+
+-- the rows of a call in the expansion; an empty call has none here
+abbrev pub rowsOf : Call → List Row
+rowsOf c = rowsBy c 1 (widthsOf c)
 
 -- what remains of a call lies in a window of n cells; a Write has no destination there
 pub record CallInside (c : Call) (n : ℕ) : Type 0 where
@@ -32,3 +38,7 @@ pub record HeldInside (t n : ℕ) (o : Op) : Type 0 where
   pub dest : o .call .dst + o .piece .width ≤ n
   pub stamp : writeStamp (o .call) ≡ t
   pub bytes : Bytes (o .piece .value)
+
+-- the first n operation records of a list of numbers
+abbrev pub opsIn : List ℕ → ℕ → List Op
+opsIn l n = map opOf (listed (recordAt OP-WIDTH l) 0 n)

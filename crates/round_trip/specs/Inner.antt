@@ -1,5 +1,5 @@
--- The answer of the whole way by the calls and by lengths alone, as the code finds it before anything is written. proofs/Whole.antt shows
--- that it is the answer. Assumes nothing.
+-- The answer of the whole way by the calls and by lengths alone, as the code finds it before anything is written: cited by the contracts
+-- of inner functions alone. That it is the answer is what the contract of `round_trip` says. Assumes nothing.
 use mathlib.Core.Path.{_≡_}
 use mathlib.Core.Bool.{cond, _||_}
 use mathlib.Core.List.{List}
