@@ -1,3 +1,4 @@
 pub mod Access
 pub mod RegisterAccess
+pub mod RegisterRecord
 pub mod Tables

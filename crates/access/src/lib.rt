@@ -2,7 +2,8 @@
 ghost use mathlib.Core.Path.{_≡_};
 ghost use Rattle.access.specs.Access.{accessRecord, isWidth, goodAccess};
 ghost use Rattle.access.specs.RegisterAccess.{registerAccess};
-ghost use Rattle.access.specs.Tables.{recordWidth};
+ghost use Rattle.access.specs.RegisterRecord.{goodRegister};
+ghost use Rattle.access.specs.Tables.{recordWidth, tableNumber};
 use records::tables::within_limits;
 
 // Where the numbers stand in a record, by the names of `MemwOperation`; VALUE, OLD and OLD_TIMESTAMP are the first of eight.
@@ -49,6 +50,17 @@ pub fn record_width(t: AccessTable) -> usize
     }
 }
 
+// A table's number, to tell tables apart.
+pub fn table_number(t: AccessTable) -> u64
+    ensures { λ r. ⌜ r ≡ tableNumber t ⌝ }
+{
+    match t {
+        AccessTable::General => 2,
+        AccessTable::Aligned => 1,
+        AccessTable::Register => 0,
+    }
+}
+
 // The largest value of each number of a record.
 const ACCESS_LIMITS: [u64; 29] = [
     1,
@@ -91,6 +103,26 @@ pub fn good_access(op: &[u64]) -> bool
         return false;
     }
     is_width(op[WIDTH])
+}
+
+// The largest value of each number of a record of the register table.
+const REGISTER_LIMITS: [u64; 8] = [
+    0xffff,
+    0xffff_ffff_ffff_ffff,
+    0xffff_ffff,
+    0xffff_ffff,
+    0xffff_ffff,
+    0xffff_ffff,
+    0xffff_ffff,
+    1,
+];
+
+// Whether `op` is a record of the register table: whole, and each field among its values.
+pub fn good_register(op: &[u64]) -> bool
+    ensures { λ r. ⌜ r ≡ goodRegister (now (op .entry)) ⌝ }
+{
+    let limits = REGISTER_LIMITS;
+    within_limits(op, &limits)
 }
 
 // The record of an access of a register: `address` is twice its number, and `value` and `old` are its words.

@@ -20,9 +20,10 @@ use Rattle.access.specs.Access.{accessOf}
 use Rattle.access.proofs.Good.{good-length}
 use Rattle.memw.specs.Rows.{regRowOf}
 use Rattle.memw.proofs.Wide.{memw-wide, aligned-wide, register-wide}
-use Rattle.memw.specs.Register.{registerLimits, goodRegister}
+use Rattle.access.specs.RegisterRecord.{registerLimits, goodRegister}
 use Rattle.access.specs.Tables.{recordWidth}
-use Rattle.memw.specs.Tables.{rowWidth, goodRecord, recordRow, tablePadding, memwRowAt, memwAnswer, memwAfter}
+use Rattle.kinds.specs.Kinds.{kindAnswer}
+use Rattle.memw.specs.Tables.{rowWidth, recordKind, goodRecord, recordRow, tablePadding, memwRowAt, memwAnswer, memwAfter}
 use Rattle.access.specs.declared.AccessTable.{AccessTable}
 use Rattle.access.specs.declared.AccessTable.the-variants.{General, Aligned, Register}
 
@@ -61,6 +62,15 @@ unfolding registerLimits
 good-whole General r e = good-length r e
 good-whole Aligned r e = good-length r e
 good-whole Register r e = within-length registerLimits r e
+
+-- The answer is that of the records' kind
+
+pub answer-of-kind : (t : AccessTable) (limit : ℕ) (records : List ℕ) (room : ℕ)
+    → kindAnswer (recordKind t) limit (rowWidth t) records room ≡ memwAnswer t limit records room
+unfolding memwAnswer
+answer-of-kind General limit records room = refl
+answer-of-kind Aligned limit records room = refl
+answer-of-kind Register limit records room = refl
 
 -- What a made table says of its records
 

@@ -3,5 +3,4 @@ pub mod AlignedColumns
 pub mod RegisterColumns
 pub mod Rows
 pub mod CarryExamples
-pub mod Register
 pub mod Tables

@@ -9,20 +9,28 @@ use Rattle.records.specs.Records.{recordCount, firstBad}
 use Rattle.records.specs.Table.{tableAnswer, rowAt, tableAfter, TableDone}
 use Rattle.records.specs.declared.TableAnswer.{TableAnswer}
 use Rattle.access.specs.Access.{accessOf, goodAccess}
+use Rattle.access.specs.RegisterRecord.{goodRegister}
 use Rattle.access.specs.Tables.{recordWidth}
 use Rattle.access.specs.declared.AccessTable.{AccessTable}
 use Rattle.access.specs.declared.AccessTable.the-variants.{General, Aligned, Register}
+use Rattle.kinds.specs.declared.RecordKind.{RecordKind}
+use Rattle.kinds.specs.declared.RecordKind.the-variants as kind
 use Rattle.memw.specs.MemwColumns as general
 use Rattle.memw.specs.AlignedColumns as aligned
 use Rattle.memw.specs.RegisterColumns as register
 use Rattle.memw.specs.Rows.{memwRow, alignedRow, registerRow, regRowOf}
-use Rattle.memw.specs.Register.{goodRegister}
 
 -- numbers in a row
 abbrev pub rowWidth : AccessTable → ℕ
 rowWidth General = general.COLUMNS
 rowWidth Aligned = aligned.COLUMNS
 rowWidth Register = register.COLUMNS
+
+-- the kind of a table's records
+abbrev pub recordKind : AccessTable → RecordKind
+recordKind General = kind.Access
+recordKind Aligned = kind.Access
+recordKind Register = kind.Register
 
 -- whether a record is whole and each field is among its values
 abbrev pub goodRecord : AccessTable → List ℕ → Bool

@@ -3,7 +3,7 @@
 ghost use mathlib.Core.Path.{_≡_};
 ghost use lib.ListN.{length};
 ghost use Rattle.access.specs.Tables.{recordWidth};
-ghost use Rattle.memw.specs.Tables.{rowWidth, goodRecord, recordRow};
+ghost use Rattle.memw.specs.Tables.{recordKind, rowWidth, recordRow};
 use crate::AccessTable;
 use crate::aligned_cols;
 use crate::cols;
@@ -13,22 +13,8 @@ use crate::rows::memw_cells;
 use crate::rows::operation;
 use crate::rows::reg_row;
 use crate::rows::register_cells;
-use access::ACCESS_WIDTH;
-use access::good_access;
+use kinds::RecordKind;
 use lists::slices::put;
-use records::tables::within_limits;
-
-// The largest value of each number of a register record.
-const REGISTER_LIMITS: [u64; 8] = [
-    0xffff,
-    0xffff_ffff_ffff_ffff,
-    0xffff_ffff,
-    0xffff_ffff,
-    0xffff_ffff,
-    0xffff_ffff,
-    0xffff_ffff,
-    1,
-];
 
 // Numbers in a row.
 pub fn row_width(t: AccessTable) -> usize
@@ -41,17 +27,14 @@ pub fn row_width(t: AccessTable) -> usize
     }
 }
 
-// Whether a record is whole and each field is among its values.
-pub fn good_record(t: AccessTable, op: &[u64]) -> bool
-    ensures { λ r. ⌜ r ≡ goodRecord t (now (op .entry)) ⌝ }
+// The kind of a table's records.
+pub fn record_kind(t: AccessTable) -> RecordKind
+    ensures { λ r. ⌜ r ≡ recordKind t ⌝ }
 {
     match t {
-        AccessTable::General => good_access(op),
-        AccessTable::Aligned => good_access(op),
-        AccessTable::Register => {
-            let limits = REGISTER_LIMITS;
-            within_limits(op, &limits)
-        }
+        AccessTable::General => RecordKind::Access,
+        AccessTable::Aligned => RecordKind::Access,
+        AccessTable::Register => RecordKind::Register,
     }
 }
 

@@ -3,44 +3,26 @@
 ghost use mathlib.Core.Path.{_≡_};
 ghost use Prim.Native.Nat.{_*_, _^_, _≤_};
 ghost use lib.ListN.{length};
-ghost use Rattle.records.specs.Records.{recordCount, firstBad};
+ghost use Rattle.records.specs.Records.{recordCount};
 ghost use Rattle.access.specs.Tables.{recordWidth};
-ghost use Rattle.memw.specs.Tables.{rowWidth, goodRecord, memwRowAt, memwAnswer, memwAfter};
-use crate::tables::good_record;
+ghost use Rattle.memw.specs.Tables.{rowWidth, memwRowAt, memwAnswer, memwAfter};
+use crate::tables::record_kind;
 use crate::tables::row_width;
 use crate::tables::write_row;
 use access::AccessTable;
 use access::record_width;
+use kinds::judge::kind_answer;
 use lists::slices::clear;
 use records::TableAnswer;
 use records::tables::record_at;
 use records::tables::record_count;
-use records::tables::table_answer;
-
-// The lowest of the n records of w numbers that is not good, or n.
-fn first_bad(t: AccessTable, records: &[u64], w: usize, n: usize) -> usize
-    requires { ⌜ (w ≡ recordWidth t) × (n ≡ recordCount (recordWidth t) (now records)) ⌝ }
-    ensures { λ r. ⌜ r ≡ firstBad (recordWidth t) (goodRecord t) (now (records .entry)) ⌝ }
-{
-    let mut k = 0;
-    while k < n {
-        if !good_record(t, record_at(records, w, k)) {
-            return k;
-        }
-        k += 1;
-    }
-    k
-}
 
 // The answer for the records, at most `limit` of them, and a lent table of `room` numbers.
 pub fn memw_answer(t: AccessTable, limit: usize, records: &[u64], room: usize) -> TableAnswer
     requires { ⌜ limit ≤ 2 ^ 20 ⌝ }
     ensures { λ r. ⌜ r ≡ memwAnswer t limit (now (records .entry)) room ⌝ }
 {
-    let w = record_width(t);
-    let n = record_count(records, w);
-    let bad = first_bad(t, records, w, n);
-    table_answer(limit, row_width(t), n, bad, room)
+    kind_answer(record_kind(t), limit, row_width(t), records, room)
 }
 
 // Writes row k of whole records, n of them, of w numbers each: that of record k, or padding past the last record.

@@ -1,7 +1,7 @@
 // Internal to the workspace, not open to callers: what every maker of a table and every reader of a record list calls. The widths
 // and the limit on records are parameters. Assumes nothing but what each `requires` says.
 ghost use mathlib.Core.Path.{_≡_};
-ghost use Prim.Native.Nat.{_+_, _*_, _^_, _≤_, _<_};
+ghost use Prim.Native.Nat.{ℕ, _+_, _*_, _^_, _≤_, _<_};
 ghost use lib.ListN.{length};
 ghost use Rattle.records.specs.Records.{recordCount, recordAt, within};
 ghost use Rattle.records.specs.RowCount.{rowCount};
@@ -57,15 +57,12 @@ pub fn row_count(n: u64) -> u64
     1 << (64 - zeros)
 }
 
-// The answer for `n` records, at most `limit` of them allowed, of which `bad` is the lowest refused one, rows of `v` numbers and a
-// lent table of `room` numbers.
-pub fn table_answer(limit: usize, v: usize, n: usize, bad: usize, room: usize) -> TableAnswer
-    requires { ⌜ (limit ≤ 2 ^ 20) × (v ≤ 64) ⌝ }
-    ensures { λ r. ⌜ r ≡ tableAnswer limit v n bad room ⌝ }
+// The answer for `n` records, no more than any limit allows, of which `bad` is the lowest refused one, rows of `v` numbers and a lent table
+// of `room` numbers.
+pub fn table_answer(v: usize, n: usize, bad: usize, room: usize) -> TableAnswer
+    requires { ⌜ (n ≤ 2 ^ 20) × (v ≤ 64) ⌝ }
+    ensures { λ r. ⌜ ((limit : ℕ) → n ≤ limit → r ≡ tableAnswer limit v n bad room) ⌝ }
 {
-    if limit < n {
-        return TableAnswer::TooManyRecords;
-    }
     if bad < n {
         return TableAnswer::BadRecord { place: bad };
     }

@@ -9,43 +9,36 @@ use lib.Dec.{lit≤}
 use Rattle.records.specs.RowCount.{rowCount}
 use Rattle.records.specs.declared.TableAnswer.the-variants.{Made}
 use Rattle.records.proofs.RowCount.{row-count-le}
-use Rattle.records.proofs.Table.{answer-over, answer-bad, answer-short, answer-made}
+use Rattle.records.proofs.Table.{answer-bad, answer-short, answer-made}
 use Rattle.records.proofs.tables.table_answer.Statement.{statement}
 use Rattle.records.proofs.tables.table_answer.Tie as tie
 
 returns : tie.Need-returns
-returns c = sym (answer-over _ _ _ _ _ (c .if1 .taken))
+returns c limit allowed = sym (answer-bad limit _ _ _ _ allowed (c .if1 .taken))
 
-returns-2 : tie.Need-returns-2
-returns-2 c = sym (answer-bad _ _ _ _ _ (c .before .if1 .left) (c .if2 .taken))
-
-mul-if3 : tie.Need-mul-if3
-mul-if3 c =
-    let start = c .before .before .before in
+mul-if2 : tie.Need-mul-if2
+mul-if2 c =
+    let start = c .before .before in
     let few : c .row-count .result ≤ 2 ^ 20 =
     rw (c .row-count .ensures) (row-count-le (start .args .n) 20 (omega arith) (omega arith) (lit≤ tt)) in
     let small : start .args .v * c .row-count .result ≤ 64 * 2 ^ 20 = mul-le-mul (start .pre .1) few in
     omega arith
 
-returns-3 : tie.Need-returns-3
-returns-3 c =
-    let at-if2 = c .before .before in
-    let at-if1 = at-if2 .before in
+returns-2 : tie.Need-returns-2
+returns-2 c limit allowed =
+    let at-if1 = c .before .before in
     let start = at-if1 .before in
     let room : start .args .room < start .args .v * rowCount (start .args .n) =
-    rw (c .before .row-count .ensures) at (c .if3 .taken) in
-    sym (answer-short _ _ _ _ _ (at-if1 .if1 .left) (at-if2 .if2 .left) room)
+    rw (c .before .row-count .ensures) at (c .if2 .taken) in
+    sym (answer-short limit _ _ _ _ allowed (at-if1 .if1 .left) room)
 
-returns-4 : tie.Need-returns-4
-returns-4 c =
-    let at-if2 = c .before .before in
-    let at-if1 = at-if2 .before in
+returns-3 : tie.Need-returns-3
+returns-3 c limit allowed =
+    let at-if1 = c .before .before in
     let start = at-if1 .before in
     let room : start .args .v * rowCount (start .args .n) ≤ start .args .room =
-    rw (c .before .row-count .ensures) at (c .if3 .left) in
-    ap Made (c .before .row-count .ensures)
-    ∙ sym (answer-made _ _ _ _ _ (at-if1 .if1 .left) (at-if2 .if2 .left) room)
+    rw (c .before .row-count .ensures) at (c .if2 .left) in
+    ap Made (c .before .row-count .ensures) ∙ sym (answer-made limit _ _ _ _ allowed (at-if1 .if1 .left) room)
 
 pub table-answer-spec : {M : Type 1} → statement M
-table-answer-spec =
-    tie.close (tie.spec returns returns-2 (λ c κs. search needs) mul-if3 returns-3 returns-4)
+table-answer-spec = tie.close (tie.spec returns (λ c κs. search needs) mul-if2 returns-2 returns-3)

@@ -1,4 +1,4 @@
--- `memw::trace::first_bad` meets its contract. The invariant: the lowest bad record is the lowest from `k` on. Assumes nothing.
+-- `kinds::judge::first_bad` meets its contract. The invariant: the lowest bad record is the lowest from `k` on. Assumes nothing.
 use mathlib.Core.Path.{_≡_, sym, ap, _∙_}
 use Prim.Native.Nat.{_-_, _≤_}
 use native.Mathlib.Omega.{arith}
@@ -8,26 +8,25 @@ use denote.Ref.{now}
 use Rattle.lists.specs.Lists.{first}
 use Rattle.records.specs.Records.{recordCount, recordAt, firstBad}
 use Rattle.records.proofs.Records.{badAt, bad-start, bad-pass, bad-stop, bad-end, record-within}
-use Rattle.access.specs.Tables.{recordWidth}
-use Rattle.memw.specs.Tables.{goodRecord}
-use Rattle.memw.proofs.AccessTables.{record-width-bounds}
-use Rattle.memw.proofs.trace.first_bad.Statement.{statement}
-use Rattle.memw.proofs.trace.first_bad.Tie as tie
+use Rattle.kinds.specs.Kinds.{widthOf, goodOf}
+use Rattle.kinds.proofs.Widths.{width-bounds}
+use Rattle.kinds.proofs.judge.first_bad.Statement.{statement}
+use Rattle.kinds.proofs.judge.first_bad.Tie as tie
 
 abbrev Inv-loop : tie.InvT-loop
-Inv-loop t records w n k₀ k =
+Inv-loop kind list w n k₀ k =
     (k ≤ n)
-    × (firstBad (recordWidth t) (goodRecord t) records
-    ≡ first (badAt (recordWidth t) (goodRecord t) records) k (recordCount (recordWidth t) records - k))
+    × (firstBad (widthOf kind) (goodOf kind) list
+    ≡ first (badAt (widthOf kind) (goodOf kind) list) k (recordCount (widthOf kind) list - k))
 
 abbrev μ-loop : tie.MeasureT-loop
-μ-loop t records w n k₀ k = n - k
+μ-loop kind list w n k₀ k = n - k
 
 record-at-requires : tie.Need-record-at-requires Inv-loop μ-loop
 record-at-requires c κs =
     let entry = c .before .before .before in
-    let t = entry .args .t in
-    let begins = record-within (recordWidth t) (now (entry .args .records)) (c .before .loop .k) (record-width-bounds t .0) (omega arith) in
+    let kind = entry .args .kind in
+    let begins = record-within (widthOf kind) (now (entry .args .list)) (c .before .loop .k) (width-bounds kind .0) (omega arith) in
     rw (entry .pre .0) (omega (arith, begins))
 
 -- places: the loop, seen from the verdict on record k; the entry, seen from the loop
@@ -40,12 +39,12 @@ entry-of c = c .before .before
 -- what the record at `k` was found to be
 judged : (c : tie.After-good-record Inv-loop μ-loop)
     → let a = entry-of (loop-of c) .args in
-    c .good-record .result ≡ goodRecord (a .t) (recordAt (recordWidth (a .t)) (now (a .records)) (loop-of c .loop .k))
+    c .good-record .result ≡ goodOf (a .kind) (recordAt (widthOf (a .kind)) (now (a .list)) (loop-of c .loop .k))
 judged c =
     let entry = entry-of (loop-of c) in
-    let records = now (entry .args .records) in
+    let list = now (entry .args .list) in
     c .good-record .ensures
-    ∙ ap (goodRecord (entry .args .t)) (c .before .record-at .ensures ∙ ap (λ w. recordAt w records (loop-of c .loop .k)) (entry .pre .0))
+    ∙ ap (goodOf (entry .args .kind)) (c .before .record-at .ensures ∙ ap (λ w. recordAt w list (loop-of c .loop .k)) (entry .pre .0))
 
 returns : tie.Need-returns Inv-loop μ-loop
 returns c =
@@ -53,7 +52,7 @@ returns c =
     let at = at-loop-test .before in
     let args = at .before .before .args in
     let bad = sym (judged (c .before)) ∙ not-true _ (c .if1 .taken) in
-    sym (at .loop .inv .1 ∙ bad-stop (recordWidth (args .t)) (goodRecord (args .t)) (now (args .records)) (at .loop .k) (omega arith) bad)
+    sym (at .loop .inv .1 ∙ bad-stop (widthOf (args .kind)) (goodOf (args .kind)) (now (args .list)) (at .loop .k) (omega arith) bad)
 
 loop-again : tie.Need-loop-again Inv-loop μ-loop
 loop-again c =
@@ -61,13 +60,13 @@ loop-again c =
     let at = at-loop-test .before in
     let args = at .before .before .args in
     let good = sym (judged (c .before)) ∙ not-false _ (c .if1 .left) in
-    (omega arith, at .loop .inv .1 ∙ bad-pass (recordWidth (args .t)) (goodRecord (args .t)) (now (args .records)) (at .loop .k) (omega arith) good)
+    (omega arith, at .loop .inv .1 ∙ bad-pass (widthOf (args .kind)) (goodOf (args .kind)) (now (args .list)) (at .loop .k) (omega arith) good)
 
 returns-2 : tie.Need-returns-2 Inv-loop μ-loop
 returns-2 c =
     let at = c .before in
     let args = at .before .before .args in
-    sym (at .loop .inv .1 ∙ bad-end (recordWidth (args .t)) (goodRecord (args .t)) (now (args .records)) (at .loop .k) (omega arith))
+    sym (at .loop .inv .1 ∙ bad-end (widthOf (args .kind)) (goodOf (args .kind)) (now (args .list)) (at .loop .k) (omega arith))
 
 pub first-bad-spec : {M : Type 1} → statement M
 first-bad-spec =

@@ -1,0 +1,30 @@
+-- The kinds of records that a table is made of. Document 01: "An operation record is 16 numbers", "An access record is 29 numbers", and of
+-- the register table: "Its record has 8 numbers". Assumes nothing.
+use Prim.Native.Nat.{ℕ}
+use mathlib.Core.Bool.{Bool}
+use mathlib.Core.List.{List}
+use Rattle.records.specs.Records.{recordCount, firstBad}
+use Rattle.records.specs.Table.{tableAnswer}
+use Rattle.records.specs.declared.TableAnswer.{TableAnswer}
+use Rattle.access.specs.Access.{ACCESS-WIDTH, goodAccess}
+use Rattle.access.specs.RegisterRecord.{goodRegister}
+use Rattle.access.specs.Tables.{REGISTER-WIDTH}
+use Rattle.call.specs.Ops.{OP-WIDTH, goodOp}
+use Rattle.kinds.specs.declared.RecordKind.{RecordKind}
+use Rattle.kinds.specs.declared.RecordKind.the-variants.{Operation, Access, Register}
+
+-- numbers in a record
+abbrev pub widthOf : RecordKind → ℕ
+widthOf Operation = OP-WIDTH
+widthOf Access = ACCESS-WIDTH
+widthOf Register = REGISTER-WIDTH
+
+-- whether a record is whole and each field is among its values
+abbrev pub goodOf : RecordKind → List ℕ → Bool
+goodOf Operation r = goodOp r
+goodOf Access r = goodAccess r
+goodOf Register r = goodRegister r
+
+-- what the maker of a table with rows of v numbers answers for a list of such records
+abbrev pub kindAnswer : RecordKind → ℕ → ℕ → List ℕ → ℕ → TableAnswer
+kindAnswer kind limit v l room = tableAnswer limit v (recordCount (widthOf kind) l) (firstBad (widthOf kind) (goodOf kind) l) room

@@ -1,0 +1,40 @@
+// The kinds of records that a table is made of: how many numbers a record of each has, and which runs of numbers are one. Assumes nothing.
+pub mod judge;
+
+ghost use mathlib.Core.Path.{_≡_};
+ghost use Rattle.kinds.specs.Kinds.{widthOf, goodOf};
+use access::ACCESS_WIDTH;
+use access::REGISTER_WIDTH;
+use access::good_access;
+use access::good_register;
+use call::OP_WIDTH;
+use call::good_op;
+
+// One kind for each form of a record: the copy table's; that of the general and the aligned table; the register table's.
+pub enum RecordKind {
+    Operation,
+    Access,
+    Register,
+}
+
+// Numbers in a record.
+pub fn width_of(kind: RecordKind) -> usize
+    ensures { λ r. ⌜ r ≡ widthOf kind ⌝ }
+{
+    match kind {
+        RecordKind::Operation => OP_WIDTH,
+        RecordKind::Access => ACCESS_WIDTH,
+        RecordKind::Register => REGISTER_WIDTH,
+    }
+}
+
+// Whether a record is whole and each field is among its values.
+pub fn good_record(kind: RecordKind, op: &[u64]) -> bool
+    ensures { λ r. ⌜ r ≡ goodOf kind (now (op .entry)) ⌝ }
+{
+    match kind {
+        RecordKind::Operation => good_op(op),
+        RecordKind::Access => good_access(op),
+        RecordKind::Register => good_register(op),
+    }
+}
