@@ -14,19 +14,23 @@ ghost use mathlib.Core.Path.{_≡_};
 ghost use mathlib.Core.Bool.{true};
 ghost use Prim.Native.Nat.{_%_};
 ghost use lib.ListN.{length};
-ghost use Rattle.access.specs.Access.{ACCESS-WIDTH, isWidth, goodAccess};
-ghost use Rattle.classify.specs.Classify.{deltaInRange, isRegisterOp, isAlignedOp, classify, tableOf};
+ghost use Rattle.lists.specs.Lists.{at};
+ghost use Rattle.access.specs.Access.{WIDTH, ACCESS-WIDTH, isWidth, goodAccess};
+ghost use Rattle.classify.specs.Classify.{deltaInRange, isRegisterOp, stampsAgree, isAlignedOp, classify, tableOf};
 ghost use Rattle.classify.specs.TableRecord.{registerRecord, addressFits};
 
-// The route of an access. Register is decided first, then aligned; the rest is general.
+// The route of an access. Register is decided first, then aligned; the rest is general. Both tests are made of every access, and without a
+// branch: which way an access goes is nothing that a processor could guess.
 pub fn classify(op: &[u64]) -> MemwRoute
     requires { ⌜ goodAccess (now op) ≡ true ⌝ }
     ensures { λ r. ⌜ r ≡ classify (now (op .entry)) ⌝ }
 {
-    if is_register_op(op) {
+    let register = is_register_op(op);
+    let aligned = is_aligned_op(op);
+    if register {
         return MemwRoute::Register;
     }
-    if is_aligned_op(op) {
+    if aligned {
         return MemwRoute::Aligned;
     }
     MemwRoute::General
@@ -37,31 +41,19 @@ fn is_register_op(op: &[u64]) -> bool
     requires { ⌜ length (now op) ≡ ACCESS-WIDTH ⌝ }
     ensures { λ r. ⌜ r ≡ isRegisterOp (now (op .entry)) ⌝ }
 {
-    if op[IS_REGISTER] != 1 {
-        return false;
-    }
-    if op[WIDTH] != 2 {
-        return false;
-    }
-    if op[OLD_TIMESTAMP] != op[OLD_TIMESTAMP + 1] {
-        return false;
-    }
-    reg_ts_delta_in_range(op[TIMESTAMP], op[OLD_TIMESTAMP])
+    (op[IS_REGISTER] == 1)
+        & ((op[WIDTH] == 2)
+            & ((op[OLD_TIMESTAMP] == op[OLD_TIMESTAMP + 1])
+                & reg_ts_delta_in_range(op[TIMESTAMP], op[OLD_TIMESTAMP])))
 }
 
 // High words equal, and the low word 1 to 65,536 above the old one: what one half holds.
 pub fn reg_ts_delta_in_range(timestamp: u64, old_ts: u64) -> bool
     ensures { λ r. ⌜ r ≡ deltaInRange timestamp «old_ts» ⌝ }
 {
-    if timestamp >> 32 != old_ts >> 32 {
-        return false;
-    }
     let ts_lo = timestamp % 4294967296;
     let old_ts_lo = old_ts % 4294967296;
-    if ts_lo <= old_ts_lo {
-        return false;
-    }
-    ts_lo - old_ts_lo <= 65536
+    (timestamp >> 32 == old_ts >> 32) & ((old_ts_lo < ts_lo) & (ts_lo <= old_ts_lo + 65536))
 }
 
 // An address that is a multiple of the width, and cells that were written together.
@@ -69,37 +61,31 @@ fn is_aligned_op(op: &[u64]) -> bool
     requires { ⌜ goodAccess (now op) ≡ true ⌝ }
     ensures { λ r. ⌜ r ≡ isAlignedOp (now (op .entry)) ⌝ }
 {
-    let width = op[WIDTH];
-    if past_multiple(op[BASE_ADDRESS] % 4294967296, width) != 0 {
-        return false;
-    }
-    let stamp = op[OLD_TIMESTAMP];
-    let n = width as usize;
-    let mut i = 1;
-    while i < n {
-        if op[OLD_TIMESTAMP + i] != stamp {
-            return false;
-        }
-        i += 1;
-    }
-    true
+    let past = past_multiple(op[BASE_ADDRESS] % 4294967296, op[WIDTH]);
+    (past == 0) & stamps_agree(op)
 }
 
-// How far `low` is past a multiple of the width. Each width by itself: then no division is left.
+// How far `low` is past a multiple of the width: a width is a power of two, so no division is left.
 fn past_multiple(low: u64, width: u64) -> u64
     requires { ⌜ isWidth width ≡ true ⌝ }
     ensures { λ r. ⌜ r ≡ low % width ⌝ }
 {
-    if width == 8 {
-        return low % 8;
-    }
-    if width == 4 {
-        return low % 4;
-    }
-    if width == 2 {
-        return low % 2;
-    }
-    0
+    low & (width - 1)
+}
+
+// Whether the first `width` old stamps agree. All eight are looked at; those that the width leaves out may differ.
+fn stamps_agree(op: &[u64]) -> bool
+    requires { ⌜ (length (now op) ≡ ACCESS-WIDTH) × (isWidth (at (now op) WIDTH) ≡ true) ⌝ }
+    ensures { λ r. ⌜ r ≡ stampsAgree (now (op .entry)) ⌝ }
+{
+    let width = op[WIDTH];
+    let stamp = op[OLD_TIMESTAMP];
+    let two = op[OLD_TIMESTAMP + 1] == stamp;
+    let four = (op[OLD_TIMESTAMP + 2] == stamp) & (op[OLD_TIMESTAMP + 3] == stamp);
+    let eight = (op[OLD_TIMESTAMP + 4] == stamp)
+        & ((op[OLD_TIMESTAMP + 5] == stamp)
+            & ((op[OLD_TIMESTAMP + 6] == stamp) & (op[OLD_TIMESTAMP + 7] == stamp)));
+    ((width < 2) | two) & (((width < 4) | four) & ((width < 8) | eight))
 }
 
 // The table that a route leads to.

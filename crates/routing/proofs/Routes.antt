@@ -5,13 +5,14 @@ use mathlib.Core.Bool.{Bool, true, false}
 use mathlib.Core.List.{List}
 use Prim.Native.Nat.{ℕ, _+_, _*_, _^_, _≤_, _<_}
 use native.Mathlib.Omega.{arith}
+use lib.Dec.{eqb}
 use lib.ListN.{length}
 use Rattle.lists.specs.Lists.{store, oneMore, placed}
 use Rattle.lists.proofs.Flat.{picked-length, counted-none, counted-le}
 use Rattle.lists.proofs.Filled as loop
 use Rattle.records.specs.Records.{recordCount, recordAt}
 use Rattle.access.specs.Access.{ACCESS-WIDTH, goodAccess}
-use Rattle.access.specs.Tables.{recordWidth, sameTable}
+use Rattle.access.specs.Tables.{recordWidth, tableNumber, sameTable}
 use Rattle.access.specs.declared.AccessTable.{AccessTable}
 use Rattle.access.specs.declared.AccessTable.the-variants.{General, Aligned, Register}
 use Rattle.access.proofs.Good.{good-length}
@@ -68,6 +69,14 @@ one-more-count Aligned General c = refl
 one-more-count General Register c = refl
 one-more-count General Aligned c = refl
 one-more-count General General c = refl
+
+-- as the three counts grow side by side
+pub counts-with-one : (t : AccessTable) (c : Counts)
+    → three (oneMore (eqb (tableNumber t) 0) (c .register)) (oneMore (eqb (tableNumber t) 1) (c .aligned)) (oneMore (eqb (tableNumber t) 2) (c .general))
+    ≡ withOne t c
+counts-with-one Register c = refl
+counts-with-one Aligned c = refl
+counts-with-one General c = refl
 
 -- no record yet, and record k more
 abbrev pub Counted : List ℕ → Counts → ℕ → Type 0

@@ -6,6 +6,7 @@ use access::AccessTable;
 use access::BASE_ADDRESS;
 use access::REGISTER_WIDTH;
 use access::good_access;
+use access::table_number;
 use classify::route::address_fits;
 use classify::route::classify;
 use classify::route::register_record;
@@ -156,27 +157,16 @@ fn verdict_of(op: &[u64]) -> Verdict
     Verdict::Misplaced
 }
 
-// One record more for a table.
+// One record more for a table, each of the three counts without a branch.
 fn one_more(t: AccessTable, counts: Counts) -> Counts
     requires { ⌜ Few counts ⌝ }
     ensures { λ r. ⌜ r ≡ withOne t counts ⌝ }
 {
-    match t {
-        AccessTable::General => Counts {
-            register: counts.register,
-            aligned: counts.aligned,
-            general: counts.general + 1,
-        },
-        AccessTable::Aligned => Counts {
-            register: counts.register,
-            aligned: counts.aligned + 1,
-            general: counts.general,
-        },
-        AccessTable::Register => Counts {
-            register: counts.register + 1,
-            aligned: counts.aligned,
-            general: counts.general,
-        },
+    let number = table_number(t);
+    Counts {
+        register: lists::slices::one_more(number == 0, counts.register),
+        aligned: lists::slices::one_more(number == 1, counts.aligned),
+        general: lists::slices::one_more(number == 2, counts.general),
     }
 }
 

@@ -1,20 +1,26 @@
--- `routing::split::one_more` meets its contract: each arm of the match is a case of the definition. Assumes nothing.
+-- `routing::split::one_more` meets its contract: of the three counts, that of the table grows. Assumes nothing.
 use native.Mathlib.Omega.{arith}
 use borrow.Author.Needs.{needs}
 use Rattle.access.specs.declared.AccessTable.the-variants.{General, Aligned, Register}
+use Rattle.routing.proofs.Routes.{counts-with-one}
 use Rattle.routing.proofs.split.one_more.Statement.{statement}
 use Rattle.routing.proofs.split.one_more.Tie as tie
+
+returns : tie.Need-returns
+returns c =
+    let at-aligned = c .before in
+    let at-register = at-aligned .before in
+    let numbered = at-register .before in
+    let a = numbered .before .args in
+    rw (c .one-more3 .ensures, at-aligned .one-more2 .ensures, at-register .one-more .ensures, numbered .table-number .ensures)
+    (counts-with-one (a .t) (a .counts))
 
 pub one-more-spec : {M : Type 1} → statement M
 one-more-spec =
     tie.close
     (tie.spec
-    (λ c. search needs)
-    (λ c. omega (arith, c .before .before .before .pre General))
-    (λ c. search needs)
-    (λ c. omega (arith, c .before .before .before .pre Aligned))
-    (λ c. search needs)
-    (λ c. omega (arith, c .before .before .before .pre Register))
-    (λ c. rw (c .before .enum-told .given .1))
-    (λ c. rw (c .before .enum-told2 .given .1))
-    (λ c. rw (c .before .enum-told3 .given .1)))
+    (λ c κs. search needs)
+    (λ c κs. omega (arith, c .before .pre Register))
+    (λ c κs. omega (arith, c .before .before .pre Aligned))
+    (λ c κs. omega (arith, c .before .before .before .pre General))
+    returns)
