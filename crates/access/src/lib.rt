@@ -3,7 +3,7 @@ ghost use mathlib.Core.Path.{_≡_};
 ghost use Rattle.access.specs.Access.{accessRecord, isWidth, goodAccess};
 ghost use Rattle.access.specs.RegisterAccess.{registerAccess};
 ghost use Rattle.access.specs.RegisterRecord.{goodRegister};
-ghost use Rattle.access.specs.Tables.{recordWidth, tableNumber};
+ghost use Rattle.access.specs.Tables.{recordWidth};
 use records::tables::within_limits;
 
 // Where the numbers stand in a record, by the names of `MemwOperation`; VALUE, OLD and OLD_TIMESTAMP are the first of eight.
@@ -47,17 +47,6 @@ pub fn record_width(t: AccessTable) -> usize
         AccessTable::General => ACCESS_WIDTH,
         AccessTable::Aligned => ACCESS_WIDTH,
         AccessTable::Register => REGISTER_WIDTH,
-    }
-}
-
-// A table's number, to tell tables apart.
-pub fn table_number(t: AccessTable) -> u64
-    ensures { λ r. ⌜ r ≡ tableNumber t ⌝ }
-{
-    match t {
-        AccessTable::General => 2,
-        AccessTable::Aligned => 1,
-        AccessTable::Register => 0,
     }
 }
 

@@ -19,25 +19,23 @@ ghost use Rattle.access.specs.Access.{WIDTH, ACCESS-WIDTH, isWidth, goodAccess}
 ghost use Rattle.classify.specs.Classify.{deltaInRange, isRegisterOp, stampsAgree, isAlignedOp, classify, tableOf};
 ghost use Rattle.classify.specs.TableRecord.{registerRecord, addressFits};
 
-// The route of an access. Register is decided first, then aligned; the rest is general. Both tests are made of every access, and without a
-// branch: which way an access goes is nothing that a processor could guess.
+// The route of an access. Register is decided first, then aligned; the rest is general.
 pub fn classify(op: &[u64]) -> MemwRoute
     requires { ⌜ goodAccess (now op) ≡ true ⌝ }
     ensures { λ r. ⌜ r ≡ classify (now (op .entry)) ⌝ }
 {
-    let register = is_register_op(op);
-    let aligned = is_aligned_op(op);
-    if register {
+    if is_register_op(op) {
         return MemwRoute::Register;
     }
-    if aligned {
+    if is_aligned_op(op) {
         return MemwRoute::Aligned;
     }
     MemwRoute::General
 }
 
-// A two-word register access whose words were written together, not long ago.
-fn is_register_op(op: &[u64]) -> bool
+// A two-word register access whose words were written together, not long ago. Here and in the tests below nothing branches: which way an
+// access goes is not for a processor to guess.
+pub fn is_register_op(op: &[u64]) -> bool
     requires { ⌜ length (now op) ≡ ACCESS-WIDTH ⌝ }
     ensures { λ r. ⌜ r ≡ isRegisterOp (now (op .entry)) ⌝ }
 {
@@ -57,7 +55,7 @@ pub fn reg_ts_delta_in_range(timestamp: u64, old_ts: u64) -> bool
 }
 
 // An address that is a multiple of the width, and cells that were written together.
-fn is_aligned_op(op: &[u64]) -> bool
+pub fn is_aligned_op(op: &[u64]) -> bool
     requires { ⌜ goodAccess (now op) ≡ true ⌝ }
     ensures { λ r. ⌜ r ≡ isAlignedOp (now (op .entry)) ⌝ }
 {

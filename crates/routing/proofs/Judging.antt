@@ -1,7 +1,7 @@
 -- What is said of one record and of all of them, case by case, and what a list that is routed says of itself. Document 01: refusals 8,
 -- 10, 11, 9, "lowest record first, 10 before 11 in one". Assumes nothing.
 use mathlib.Core.Path.{_≡_, refl, sym, ap, _∙_, subst}
-use mathlib.Core.Bool.{Bool, true, false, cond, and-eq-true-iff}
+use mathlib.Core.Bool.{Bool, true, false, cond, not, _&&_, and-eq-true-iff}
 use mathlib.Core.List.{List}
 use Prim.Native.Nat.{ℕ, _-_, _≤_, _<_}
 use native.Mathlib.Omega.{arith}
@@ -13,38 +13,45 @@ use Rattle.records.proofs.Records.{badAt, all-good, bad-stop, bad-end}
 use Rattle.access.specs.Access.{BASE-ADDRESS, ACCESS-WIDTH, goodAccess}
 use Rattle.access.specs.declared.AccessTable.{AccessTable}
 use Rattle.access.specs.declared.AccessTable.the-variants.{General, Aligned, Register}
-use Rattle.classify.specs.Classify.{tableFor}
+use Rattle.classify.specs.Classify.{isRegisterOp, isAlignedOp, tableFor}
 use Rattle.classify.specs.TableRecord.{addressFits}
 use Rattle.routing.specs.Routing.{three, countIn, countOf, countsOf, routable, recordRefusal, firstRefused, fits, allFit, routed, routeAnswer}
-use Rattle.routing.specs.Steps.{routeVerdict, judged, Holds}
+use Rattle.routing.specs.Steps.{judged, tableBy, Holds}
 use Rattle.routing.specs.declared.RouteAnswer.{RouteAnswer}
 use Rattle.routing.specs.declared.RouteAnswer.the-variants.{Routed, TooManyRecords, BadRecord, BadAddress, BufferShort}
 use Rattle.routing.specs.declared.split.Counts.{Counts}
-use Rattle.routing.specs.declared.split.Verdict.{Verdict}
-use Rattle.routing.specs.declared.split.Verdict.the-variants.{Goes, Malformed, Misplaced}
-use Rattle.routing.proofs.Routes.{by-table, count-le, Counted}
+use Rattle.routing.proofs.Routes.{table-by, by-table, count-le, Counted}
 
 -- One record
 
 module _ (r : List ℕ) where
-  -- what each verdict says of it
-  abbrev pub Said : Verdict → Type 0
-  Said (Goes t) = (routable r ≡ true) × (t ≡ tableFor r)
-  Said Malformed = (routable r ≡ false) × ((k : ℕ) → recordRefusal r k ≡ BadRecord k)
-  Said Misplaced = (routable r ≡ false) × ((k : ℕ) → recordRefusal r k ≡ BadAddress k)
+  -- it is in the register table, and its address has no place there
+  abbrev pub misplaced : Bool
+  misplaced = isRegisterOp r && not (addressFits Register (at r BASE-ADDRESS))
 
-  said : Said (routeVerdict r)
-  unfolding routeVerdict routable
-  said = step _ _ refl refl
+  fits-by : addressFits (tableFor r) (at r BASE-ADDRESS) ≡ not misplaced
+  fits-by =
+      ap (λ t. addressFits t (at r BASE-ADDRESS)) (sym (table-by r))
+      ∙ step (isRegisterOp r) (isAlignedOp r) (addressFits Register (at r BASE-ADDRESS)) refl
     where
-      step : (a b : Bool) → goodAccess r ≡ a → addressFits (tableFor r) (at r BASE-ADDRESS) ≡ b
-          → Said (cond a (cond b (Goes (tableFor r)) Misplaced) Malformed)
-      step true true ha hb = (rw (ha, hb), refl)
-      step true false ha hb = (rw (ha, hb), λ k. rw ha)
-      step false b ha hb = (rw ha, λ k. rw ha)
+      step : (a b f : Bool) → addressFits Register (at r BASE-ADDRESS) ≡ f → addressFits (tableBy a b) (at r BASE-ADDRESS) ≡ not (a && not f)
+      step true b true e = e
+      step true b false e = e
+      step false true f e = refl
+      step false false f e = refl
 
-  pub verdict-said : (v : Verdict) → routeVerdict r ≡ v → Said v
-  verdict-said v e = subst Said e said
+  -- 10 before 11: the refusal of a record that is not good, then of one that is misplaced
+  pub bad-refused : goodAccess r ≡ false → (routable r ≡ false) × ((k : ℕ) → recordRefusal r k ≡ BadRecord k)
+  unfolding routable
+  bad-refused e = (rw e, λ k. rw e)
+
+  pub misplaced-refused : goodAccess r ≡ true → misplaced ≡ true → (routable r ≡ false) × ((k : ℕ) → recordRefusal r k ≡ BadAddress k)
+  unfolding routable
+  misplaced-refused e m = (rw (e, fits-by, m), λ k. rw e)
+
+  pub placed-routable : goodAccess r ≡ true → misplaced ≡ false → routable r ≡ true
+  unfolding routable
+  placed-routable e m = rw (e, fits-by, m)
 
   pub routable-good : routable r ≡ true → goodAccess r ≡ true
   unfolding routable

@@ -1,26 +1,36 @@
 -- Laws of the three lists, one law for all tables: how wide a list's records are, how counts and list grow by a record, and where the record
 -- is written. Document 01: "Three lists in arrival order". Assumes nothing.
 use mathlib.Core.Path.{_≡_, refl, sym, ap, _∙_, subst}
-use mathlib.Core.Bool.{Bool, true, false}
+use mathlib.Core.Bool.{Bool, true, false, cond, not, _&&_, _||_}
 use mathlib.Core.List.{List}
 use Prim.Native.Nat.{ℕ, _+_, _*_, _^_, _≤_, _<_}
 use native.Mathlib.Omega.{arith}
-use lib.Dec.{eqb}
 use lib.ListN.{length}
 use Rattle.lists.specs.Lists.{store, oneMore, placed}
 use Rattle.lists.proofs.Flat.{picked-length, counted-none, counted-le}
 use Rattle.lists.proofs.Filled as loop
 use Rattle.records.specs.Records.{recordCount, recordAt}
 use Rattle.access.specs.Access.{ACCESS-WIDTH, goodAccess}
-use Rattle.access.specs.Tables.{recordWidth, tableNumber, sameTable}
+use Rattle.access.specs.Tables.{recordWidth, sameTable}
 use Rattle.access.specs.declared.AccessTable.{AccessTable}
 use Rattle.access.specs.declared.AccessTable.the-variants.{General, Aligned, Register}
 use Rattle.access.proofs.Good.{good-length}
-use Rattle.classify.specs.Classify.{tableFor}
+use Rattle.classify.specs.Classify.{isRegisterOp, isAlignedOp, classify, tableOf, tableFor}
+use Rattle.classify.specs.declared.MemwRoute.the-variants as route
 use Rattle.classify.specs.TableRecord.{tableRecord}
 use Rattle.routing.specs.Routing.{three, countIn, Lists, listOf, roomsOf, goesTo, listedAs, routedOf, countOf}
-use Rattle.routing.specs.Steps.{withOne, Few, RoomFor, Holds, Put}
+use Rattle.routing.specs.Steps.{tableBy, withOne, Few, RoomFor, Holds, Put}
 use Rattle.routing.specs.declared.split.Counts.{Counts}
+
+-- the table of an access is the one that its two tests lead to
+pub table-by : (r : List ℕ) → tableBy (isRegisterOp r) (isAlignedOp r) ≡ tableFor r
+unfolding classify
+table-by r = step (isRegisterOp r) (isAlignedOp r)
+  where
+    step : (a b : Bool) → tableBy a b ≡ tableOf (cond a route.Register (cond b route.Aligned route.General))
+    step true b = refl
+    step false true = refl
+    step false false = refl
 
 -- what holds of each table holds of all
 pub by-table : (P : AccessTable → Type 0) → P Register → P Aligned → P General → (t : AccessTable) → P t
@@ -71,12 +81,12 @@ one-more-count General Aligned c = refl
 one-more-count General General c = refl
 
 -- as the three counts grow side by side
-pub counts-with-one : (t : AccessTable) (c : Counts)
-    → three (oneMore (eqb (tableNumber t) 0) (c .register)) (oneMore (eqb (tableNumber t) 1) (c .aligned)) (oneMore (eqb (tableNumber t) 2) (c .general))
-    ≡ withOne t c
-counts-with-one Register c = refl
-counts-with-one Aligned c = refl
-counts-with-one General c = refl
+pub counts-with-one : (a b : Bool) (c : Counts)
+    → three (oneMore a (c .register)) (oneMore (b && not a) (c .aligned)) (oneMore (not (a || b)) (c .general)) ≡ withOne (tableBy a b) c
+counts-with-one true true c = refl
+counts-with-one true false c = refl
+counts-with-one false true c = refl
+counts-with-one false false c = refl
 
 -- no record yet, and record k more
 abbrev pub Counted : List ℕ → Counts → ℕ → Type 0

@@ -1,32 +1,30 @@
 -- What one record does to the counts and to the lent lists: definitions that the contracts of inner functions cite. Assumes nothing.
 use mathlib.Core.Path.{_≡_}
 use Prim.Native.Nat.{ℕ, _+_, _*_, _^_, _≤_, _<_}
-use mathlib.Core.Bool.{true, cond}
+use mathlib.Core.Bool.{Bool, true, cond}
 use mathlib.Core.List.{List}
 use lib.Dec.{ltb}
-use Rattle.lists.specs.Lists.{placed, at}
+use Rattle.lists.specs.Lists.{placed}
 use Rattle.records.specs.Records.{recordCount, recordAt}
-use Rattle.access.specs.Access.{BASE-ADDRESS, ACCESS-WIDTH, goodAccess}
+use Rattle.access.specs.Access.{ACCESS-WIDTH}
 use Rattle.access.specs.Tables.{recordWidth, sameTable}
 use Rattle.access.specs.declared.AccessTable.{AccessTable}
 use Rattle.access.specs.declared.AccessTable.the-variants.{General, Aligned, Register}
 use Rattle.classify.specs.Classify.{tableFor}
-use Rattle.classify.specs.TableRecord.{tableRecord, addressFits}
+use Rattle.classify.specs.TableRecord.{tableRecord}
 use Rattle.routing.specs.Routing.{three, countIn, Lists, listOf, countOf, countsOf, firstRefused, recordRefusal, routed, filledList}
 use Rattle.routing.specs.declared.RouteAnswer.{RouteAnswer}
 use Rattle.routing.specs.declared.split.Counts.{Counts}
-use Rattle.routing.specs.declared.split.Verdict.{Verdict}
-use Rattle.routing.specs.declared.split.Verdict.the-variants.{Goes, Malformed, Misplaced}
-
--- what is said of a record: refused with 10, refused with 11, or its table
-unfoldable pub routeVerdict : List ℕ → Verdict
-routeVerdict r = cond (goodAccess r) (cond (addressFits (tableFor r) (at r BASE-ADDRESS)) (Goes (tableFor r)) Misplaced) Malformed
 
 -- the refusal of the lowest record that is refused, or the counts
 unfoldable pub judged : List ℕ → RouteAnswer
 judged l =
     cond (ltb (firstRefused l) (recordCount ACCESS-WIDTH l)) (recordRefusal (recordAt ACCESS-WIDTH l (firstRefused l)) (firstRefused l))
     (routed (countsOf l))
+
+-- the table that an access's two tests lead to: register first
+abbrev pub tableBy : Bool → Bool → AccessTable
+tableBy register aligned = cond register Register (cond aligned Aligned General)
 
 -- one record more for table t
 abbrev pub withOne : AccessTable → Counts → Counts

@@ -6,12 +6,11 @@ use access::AccessTable;
 use access::BASE_ADDRESS;
 use access::REGISTER_WIDTH;
 use access::good_access;
-use access::table_number;
 use classify::route::address_fits;
-use classify::route::classify;
+use classify::route::is_aligned_op;
+use classify::route::is_register_op;
 use classify::route::register_record;
-use classify::route::table_of;
-use lists::slices::put_at;
+use lists::slices;
 use records::tables::record_at;
 use records::tables::record_count;
 ghost use mathlib.Core.Path.{_≡_};
@@ -21,20 +20,13 @@ ghost use Rattle.records.specs.Records.{recordCount, recordAt};
 ghost use Rattle.access.specs.Access.{ACCESS-WIDTH, goodAccess};
 ghost use Rattle.access.specs.declared.AccessTable.{AccessTable};
 ghost use Rattle.routing.specs.Routing.{three, lists, roomsOf, routeAnswer, listsAfter};
-ghost use Rattle.routing.specs.Steps.{routeVerdict, judged, withOne, Few, RoomFor, Holds, Put, Written};
+ghost use Rattle.routing.specs.Steps.{judged, tableBy, withOne, Few, RoomFor, Holds, Put, Written};
 
 // A number for each list: how many records went there, or how long it is.
 pub struct Counts {
     pub register: usize,
     pub aligned: usize,
     pub general: usize,
-}
-
-// What is said of one record: the table that takes it, or refusal 10 or 11.
-pub enum Verdict {
-    Goes(AccessTable),
-    Malformed,
-    Misplaced,
 }
 
 // Routes at most `limit` records.
@@ -122,18 +114,16 @@ fn judge(accesses: &[u64], n: usize) -> RouteAnswer
     };
     let mut k = 0;
     while k < n {
-        let verdict = verdict_of(record_at(accesses, ACCESS_WIDTH, k));
-        match verdict {
-            Verdict::Goes(t) => {
-                counts = one_more(t, counts);
-            }
-            Verdict::Malformed => {
-                return RouteAnswer::BadRecord { place: k };
-            }
-            Verdict::Misplaced => {
-                return RouteAnswer::BadAddress { place: k };
-            }
+        let op = record_at(accesses, ACCESS_WIDTH, k);
+        if !good_access(op) {
+            return RouteAnswer::BadRecord { place: k };
         }
+        let to_register = is_register_op(op);
+        let to_aligned = is_aligned_op(op);
+        if to_register & !address_fits(AccessTable::Register, op[BASE_ADDRESS]) {
+            return RouteAnswer::BadAddress { place: k };
+        }
+        counts = one_more(to_register, to_aligned, counts);
         k += 1;
     }
     RouteAnswer::Routed {
@@ -143,30 +133,15 @@ fn judge(accesses: &[u64], n: usize) -> RouteAnswer
     }
 }
 
-// What is said of one record: 10 before 11.
-fn verdict_of(op: &[u64]) -> Verdict
-    ensures { λ r. ⌜ r ≡ routeVerdict (now (op .entry)) ⌝ }
-{
-    if !good_access(op) {
-        return Verdict::Malformed;
-    }
-    let t = table_of(classify(op));
-    if address_fits(t, op[BASE_ADDRESS]) {
-        return Verdict::Goes(t);
-    }
-    Verdict::Misplaced
-}
-
-// One record more for a table, each of the three counts without a branch.
-fn one_more(t: AccessTable, counts: Counts) -> Counts
+// One record more for the table that the two tests lead to, each of the three counts without a branch.
+fn one_more(to_register: bool, to_aligned: bool, counts: Counts) -> Counts
     requires { ⌜ Few counts ⌝ }
-    ensures { λ r. ⌜ r ≡ withOne t counts ⌝ }
+    ensures { λ r. ⌜ r ≡ withOne (tableBy «to_register» «to_aligned») counts ⌝ }
 {
-    let number = table_number(t);
     Counts {
-        register: lists::slices::one_more(number == 0, counts.register),
-        aligned: lists::slices::one_more(number == 1, counts.aligned),
-        general: lists::slices::one_more(number == 2, counts.general),
+        register: slices::one_more(to_register, counts.register),
+        aligned: slices::one_more(to_aligned & !to_register, counts.aligned),
+        general: slices::one_more(!(to_register | to_aligned), counts.general),
     }
 }
 
@@ -205,20 +180,17 @@ fn put_access(
     ensures { λ r. ⌜ Put (now (op .entry)) ends (lists (now (register .entry)) (now (aligned .entry)) (now (general .entry)))
         (lists (now (register .exit)) (now (aligned .exit)) (now (general .exit))) r ⌝ }
 {
-    let t = table_of(classify(op));
-    match t {
-        AccessTable::General => {
-            put_at(general, ACCESS_WIDTH * ends.general, &op[0..ACCESS_WIDTH]);
-            one_more(t, ends)
-        }
-        AccessTable::Aligned => {
-            put_at(aligned, ACCESS_WIDTH * ends.aligned, &op[0..ACCESS_WIDTH]);
-            one_more(t, ends)
-        }
-        AccessTable::Register => {
-            let record = register_record(op);
-            put_at(register, REGISTER_WIDTH * ends.register, &record);
-            one_more(t, ends)
-        }
+    let to_register = is_register_op(op);
+    let to_aligned = is_aligned_op(op);
+    if to_register {
+        let record = register_record(op);
+        slices::put_at(register, REGISTER_WIDTH * ends.register, &record);
+        return one_more(to_register, to_aligned, ends);
     }
+    if to_aligned {
+        slices::put_at(aligned, ACCESS_WIDTH * ends.aligned, &op[0..ACCESS_WIDTH]);
+        return one_more(to_register, to_aligned, ends);
+    }
+    slices::put_at(general, ACCESS_WIDTH * ends.general, &op[0..ACCESS_WIDTH]);
+    one_more(to_register, to_aligned, ends)
 }

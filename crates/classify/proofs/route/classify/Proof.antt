@@ -8,20 +8,20 @@ use Rattle.classify.proofs.route.classify.Tie as tie
 
 returns : tie.Need-returns
 unfolding classify
-returns c = simp (sym (c .before .before .is-register-op .ensures) ∙ c .if1 .taken)
+returns c = simp (sym (c .before .is-register-op .ensures) ∙ c .if1 .taken)
 
 returns-2 : tie.Need-returns-2
 unfolding classify
 returns-2 c =
-    let tested = c .before .before in
-    simp (sym (tested .before .is-register-op .ensures) ∙ c .before .if1 .left, sym (tested .is-aligned-op .ensures) ∙ c .if2 .taken)
+    let missed = c .before .before in
+    simp (sym (missed .before .is-register-op .ensures) ∙ missed .if1 .left, sym (c .before .is-aligned-op .ensures) ∙ c .if2 .taken)
 
 returns-3 : tie.Need-returns-3
 unfolding classify
 returns-3 c =
-    let tested = c .before .before in
-    simp (sym (tested .before .is-register-op .ensures) ∙ c .before .if1 .left, sym (tested .is-aligned-op .ensures) ∙ c .if2 .left)
+    let missed = c .before .before in
+    simp (sym (missed .before .is-register-op .ensures) ∙ missed .if1 .left, sym (c .before .is-aligned-op .ensures) ∙ c .if2 .left)
 
 pub classify-spec : {M : Type 1} → statement M
 classify-spec =
-    tie.close (tie.spec (λ c κs. good-length _ (c .before .pre)) (λ c κs. search needs) returns returns-2 returns-3)
+    tie.close (tie.spec (λ c κs. good-length _ (c .before .pre)) returns (λ c κs. search needs) returns-2 returns-3)

@@ -10,17 +10,15 @@ returns : tie.Need-returns
 returns c =
     let at-aligned = c .before in
     let at-register = at-aligned .before in
-    let numbered = at-register .before in
-    let a = numbered .before .args in
-    rw (c .one-more3 .ensures, at-aligned .one-more2 .ensures, at-register .one-more .ensures, numbered .table-number .ensures)
-    (counts-with-one (a .t) (a .counts))
+    let a = at-register .before .args in
+    rw (c .one-more3 .ensures, at-aligned .one-more2 .ensures, at-register .one-more .ensures)
+    (counts-with-one (a .to-register) (a .to-aligned) (a .counts))
 
 pub one-more-spec : {M : Type 1} → statement M
 one-more-spec =
     tie.close
     (tie.spec
-    (λ c κs. search needs)
-    (λ c κs. omega (arith, c .before .pre Register))
-    (λ c κs. omega (arith, c .before .before .pre Aligned))
-    (λ c κs. omega (arith, c .before .before .before .pre General))
+    (λ c κs. omega (arith, c .pre Register))
+    (λ c κs. omega (arith, c .before .pre Aligned))
+    (λ c κs. omega (arith, c .before .before .pre General))
     returns)
