@@ -29,7 +29,13 @@ fn first_bad(kind: RecordKind, list: &[u64], w: usize, n: usize) -> usize
 
 // The answer for a list of records, at most `limit` of them, rows of `v` numbers and a lent table of `room` numbers. A list that is too
 // long is not read.
-pub fn kind_answer(kind: RecordKind, limit: usize, v: usize, list: &[u64], room: usize) -> TableAnswer
+pub fn kind_answer(
+    kind: RecordKind,
+    limit: usize,
+    v: usize,
+    list: &[u64],
+    room: usize,
+) -> TableAnswer
     requires { ⌜ (limit ≤ 2 ^ 20) × (v ≤ 64) ⌝ }
     ensures { λ r. ⌜ r ≡ kindAnswer kind limit v (now (list .entry)) room ⌝ }
 {

@@ -59,7 +59,9 @@ good-at c =
 -- what the two tests say of it
 module _ (c : tie.After-is-aligned-op Inv-loop μ-loop) where
   abbrev read : tie.After-record-at Inv-loop μ-loop
-  read = let passed = c .before .before in passed .before .before
+  read =
+      let passed = c .before .before in
+      passed .before .before
 
   register-at : c .before .is-register-op .result ≡ isRegisterOp (record-at read)
   register-at = c .before .is-register-op .ensures ∙ ap isRegisterOp (read .record-at .ensures)

@@ -51,6 +51,11 @@ to-aligned c = sym (table-at (c .before .before)) ∙ (λ i. tableBy (c .before 
 to-general : (c : tie.Else2) → tableFor (op (c .before .before)) ≡ General
 to-general c = sym (table-at (c .before .before)) ∙ (λ i. tableBy (c .before .if1 .left i) (c .if2 .left i))
 
+is-register-op-requires : tie.Need-is-register-op-requires
+is-register-op-requires c κs =
+    let slices = c .before .before in
+    good-length _ (slices .before .before .pre .0)
+
 put-at-requires : tie.Need-put-at-requires
 put-at-requires c κs =
     let made = c .before .before .before in
@@ -122,7 +127,7 @@ pub put-access-spec : {M : Type 1} → statement M
 put-access-spec =
     tie.close
     (tie.spec
-    (λ c κs. let slices = c .before .before in good-length _ (slices .before .before .pre .0))
+    is-register-op-requires
     (λ c κs. search needs)
     (λ c κs. whole (c .before))
     (λ c. let here = c .before .before .before in
