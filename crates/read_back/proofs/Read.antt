@@ -1,75 +1,94 @@
--- What an answer that refuses nothing says of the list and of the lent buffers, and what is in them afterwards. Document 01: "Read-back
--- checks the chain, then 9". Assumes nothing.
-use mathlib.Core.Path.{_≡_, refl, ap, subst}
-use mathlib.Core.Bool.{Bool, true, false, cond, _&&_}
+-- What the room in the lent buffers decides of a list that passes the chain check, and what read-back has shown at each of its ways out.
+-- Document 01: "Read-back checks the chain, then 9". Assumes nothing.
+use mathlib.Core.Path.{_≡_, refl, sym, ap, _∙_}
+use mathlib.Core.Bool.{Bool, true, false, cond, _&&_, false≢true}
 use mathlib.Core.List.{List}
-use Prim.Native.Nat.{ℕ, _*_, _≤_}
-use borrow.Author.Tests.{leb-true}
+use Prim.Native.Nat.{ℕ, _*_, _/_, _≤_}
+use native.Mathlib.Omega.{arith}
+use borrow.Author.Tests.{leb-true, le-leb}
 use lib.Dec.{leb}
 use lib.ListN.{length}
 use Rattle.lists.specs.Lists.{store}
 use Rattle.call.specs.Ops.{OP-WIDTH}
 use Rattle.call.specs.Flat.{CALL-WIDTH}
-use Rattle.chain.specs.Chain.{chainAnswer, chainNumbers}
+use Rattle.copy_row.specs.Columns.{COLUMNS}
+use Rattle.chain.specs.Chain.{chainAnswer}
 use Rattle.chain.specs.declared.ChainAnswer as Chain
 use Rattle.chain.specs.declared.ChainAnswer.the-variants as chain
+use Rattle.chain.specs.declared.ChainRefusal.{ChainRefusal}
 use Rattle.chain.proofs.Passed.{Accepted, passing, passing-caps}
-use Rattle.read_back.specs.ReadBack.{readOps, readCalls, roomAnswer, onChain, readBackAnswer, opsAfter, callsAfter}
-use Rattle.read_back.specs.Steps.{rowsRead, numbersRead, RowsFit}
+use Rattle.read_back.specs.ReadBack.{readOps, readCalls, roomAnswer, readBackAnswer, opsAfter, callsAfter, readBackNumbers, ReadDone}
+use Rattle.read_back.specs.Steps.{rowsRead, numbersRead, holdsRead, RowsFit, CountsOf}
 use Rattle.read_back.specs.declared.ReadBackAnswer.{ReadBackAnswer}
 use Rattle.read_back.specs.declared.ReadBackAnswer.the-variants.{Read, Refused, BufferShort}
-use Rattle.read_back.proofs.Walk.{numbers-length}
+use Rattle.read_back.specs.declared.rows.Counts.{Counts}
+use Rattle.read_back.proofs.Walk.{rows-most, numbers-length}
 
 pub passed-fit : (gap : ℕ) (l : List ℕ) → Accepted (chainAnswer gap l) → RowsFit l
 passed-fit gap l e = let p = passing gap l e in record { whole = p .whole; caps = passing-caps gap l p }
 
--- The answer by what was counted
+-- The room
 
-pub counted-answer : (l : List ℕ) (opsRoom callsRoom o c : ℕ) → o ≡ length (rowsRead false l) → c ≡ length (rowsRead true l)
-    → cond (leb (OP-WIDTH * o) opsRoom && leb (CALL-WIDTH * c) callsRoom) (Read o c) BufferShort ≡ roomAnswer l opsRoom callsRoom
-unfolding roomAnswer readOps readCalls numbersRead rowsRead
-counted-answer l opsRoom callsRoom o c e q = rw (numbers-length false l, numbers-length true l, e, q)
+both : (s t : Bool) → s && t ≡ true → (s ≡ true) × (t ≡ true)
+both true t e = (refl, e)
+both false t e = absurd (false≢true e)
 
--- A list that is read
-
-module _ (gap : ℕ) (l : List ℕ) (opsRoom callsRoom : ℕ) where
-  pub record ReadFacts : Type 0 where
-    pub fit : RowsFit l
+module _ (l : List ℕ) (opsRoom callsRoom : ℕ) where
+  pub record Holds : Type 0 where
     pub holds-ops : OP-WIDTH * length (rowsRead false l) ≤ opsRoom
     pub holds-calls : CALL-WIDTH * length (rowsRead true l) ≤ callsRoom
 
-  Facts : ReadBackAnswer → Type 0
-  Facts (Read ops calls) = ReadFacts
-  Facts (Refused why) = Unit {0}
-  Facts BufferShort = Unit {0}
+  pub holds-of : holdsRead l opsRoom callsRoom ≡ true → Holds
+  unfolding holdsRead
+  holds-of e = let h = both _ _ e in record { holds-ops = leb-true _ _ (h .0); holds-calls = leb-true _ _ (h .1) }
 
-  facts : Facts (readBackAnswer gap l opsRoom callsRoom)
-  unfolding Facts readBackAnswer
-  facts = step (chainAnswer gap l) refl
-    where
-      rooms : (s t : Bool) → leb (OP-WIDTH * length (rowsRead false l)) opsRoom ≡ s → leb (CALL-WIDTH * length (rowsRead true l)) callsRoom ≡ t
-          → RowsFit l → Facts (cond (s && t) (Read (length (rowsRead false l)) (length (rowsRead true l))) BufferShort)
-      rooms true true p q fit = record { fit = fit; holds-ops = leb-true _ _ p; holds-calls = leb-true _ _ q }
-      rooms true false p q fit = tt
-      rooms false t p q fit = tt
+  -- buffers for all rows hold what is read
+  pub holds-all : RowsFit l → leb (OP-WIDTH * (length l / COLUMNS)) opsRoom && leb (CALL-WIDTH * (length l / COLUMNS)) callsRoom ≡ true
+      → true ≡ holdsRead l opsRoom callsRoom
+  unfolding holdsRead
+  holds-all fit e =
+      let h = both (leb (OP-WIDTH * (length l / COLUMNS)) opsRoom) (leb (CALL-WIDTH * (length l / COLUMNS)) callsRoom) e in
+      sym (rw (
+        le-leb (OP-WIDTH * length (rowsRead false l)) opsRoom (omega (arith, leb-true _ opsRoom (h .0), rows-most l fit false)),
+        le-leb (CALL-WIDTH * length (rowsRead true l)) callsRoom (omega (arith, leb-true _ callsRoom (h .1), rows-most l fit true)),
+      ))
 
-      step : (v : Chain.ChainAnswer) → chainAnswer gap l ≡ v → Facts (onChain v (roomAnswer l opsRoom callsRoom))
-      step (chain.Passed rows) e =
-          subst Facts (counted-answer l opsRoom callsRoom _ _ refl refl)
-          (rooms _ _ refl refl (passed-fit gap l (ap (λ (x : Chain.ChainAnswer). chainNumbers x .number) e)))
-      step (chain.Refused why) e = tt
+  -- by what was counted
+  pub holds-counted : (counts : Counts) → CountsOf l counts
+      → leb (OP-WIDTH * counts .ops) opsRoom && leb (CALL-WIDTH * counts .calls) callsRoom ≡ holdsRead l opsRoom callsRoom
+  unfolding holdsRead
+  holds-counted counts is = rw (is .is-ops, is .is-calls)
 
-  pub read-facts : (ops calls : ℕ) → readBackAnswer gap l opsRoom callsRoom ≡ Read ops calls → ReadFacts
-  unfolding Facts
-  read-facts ops calls e = subst Facts e facts
+  room-answer : roomAnswer l opsRoom callsRoom
+      ≡ cond (holdsRead l opsRoom callsRoom) (Read (length (rowsRead false l)) (length (rowsRead true l))) BufferShort
+  unfolding roomAnswer readOps readCalls numbersRead rowsRead holdsRead
+  room-answer = rw (numbers-length false l, numbers-length true l)
 
--- The lent buffers afterwards
+-- The ways out
 
-module _ (answer : ReadBackAnswer) (l buffer : List ℕ) (ops calls : ℕ) (e : answer ≡ Read ops calls) where
-  pub ops-read : store buffer 0 (numbersRead false l) ≡ opsAfter answer l buffer
-  unfolding opsAfter readOps numbersRead rowsRead
-  ops-read = rw e
+module _ (gap : ℕ) (l ops calls : List ℕ) where
+  abbrev answer : ReadBackAnswer
+  answer = readBackAnswer gap l (length ops) (length calls)
 
-  pub calls-read : store buffer 0 (numbersRead true l) ≡ callsAfter answer l buffer
-  unfolding callsAfter readCalls numbersRead rowsRead
-  calls-read = rw e
+  pub refused : (why : ChainRefusal) → chainAnswer gap l ≡ chain.Refused why
+      → ReadDone gap l ops calls (readBackNumbers (Refused why)) ops calls
+  unfolding readBackAnswer opsAfter callsAfter
+  refused why e = record { answer = rw e; ops-left = rw e; calls-left = rw e }
+
+  module _ (rows : ℕ) (passed : chainAnswer gap l ≡ chain.Passed rows) where
+    by-room : (b : Bool) → holdsRead l (length ops) (length calls) ≡ b
+        → answer ≡ cond b (Read (length (rowsRead false l)) (length (rowsRead true l))) BufferShort
+    unfolding readBackAnswer
+    by-room b e = rw passed (room-answer l (length ops) (length calls) ∙ rw e)
+
+    pub short : holdsRead l (length ops) (length calls) ≡ false → ReadDone gap l ops calls (readBackNumbers BufferShort) ops calls
+    unfolding opsAfter callsAfter
+    short e = let a = by-room false e in record { answer = rw a; ops-left = rw a; calls-left = rw a }
+
+    pub read : holdsRead l (length ops) (length calls) ≡ true → (counts : Counts) → CountsOf l counts → (opsLater callsLater : List ℕ)
+        → opsLater ≡ store ops 0 (numbersRead false l) → callsLater ≡ store calls 0 (numbersRead true l)
+        → ReadDone gap l ops calls (readBackNumbers (Read (counts .ops) (counts .calls))) opsLater callsLater
+    unfolding opsAfter callsAfter readOps readCalls numbersRead rowsRead
+    read e counts is opsLater callsLater written told =
+        let a = by-room true e in
+        record { answer = rw (a, is .is-ops, is .is-calls); ops-left = rw a written; calls-left = rw a told }

@@ -8,6 +8,8 @@ use native.Mathlib.Omega.{arith}
 use lib.ListN.{length}
 use Rattle.lists.specs.Lists.{store, oneMore, placed, picked, counted}
 use Rattle.lists.proofs.All.{all-of}
+use Rattle.lists.proofs.Filled.{Filled, count-next, filled-next, filled-room}
+use Rattle.lists.proofs.Flat.{counted-le}
 use Rattle.lists.proofs.Joined.{flatMap-length}
 use Rattle.lists.proofs.Listed.{picked-kept, kept-count}
 use Rattle.records.specs.Records.{recordCount, recordAt, recordsIn}
@@ -39,11 +41,46 @@ module _ (l : List ℕ) (fit : RowsFit l) where
     unfolding rowsRead recordsIn
     rows-read = kept-count (isRead calls) (recordAt COLUMNS l) (recordCount COLUMNS l) ∙ ap (counted (readAt calls l)) rows-counted
 
+    pub rows-most : length (rowsRead calls l) ≤ length l / COLUMNS
+    rows-most = omega (arith, rows-read, counted-le (readAt calls l) (length l / COLUMNS))
+
     pub numbers-read : picked (readAt calls l) (partAt calls l) (length l / COLUMNS) ≡ numbersRead calls l
     unfolding numbersRead rowsRead recordsIn
     numbers-read =
         ap (picked (readAt calls l) (partAt calls l)) (sym rows-counted)
         ∙ picked-kept (isRead calls) (numbersOf calls) (recordAt COLUMNS l) (recordCount COLUMNS l)
+
+    -- Row k of a walk, and its end
+
+    module _ (k : ℕ) where
+      -- counted
+      pub row-counted : (row : List ℕ) → row ≡ recordAt COLUMNS l k → (j next : ℕ) → j ≡ counted (readAt calls l) k
+          → next ≡ oneMore (isRead calls row) j → next ≡ counted (readAt calls l) (k + 1)
+      row-counted row is j next e more =
+          count-next (readAt calls l) k j next e (more ∙ ap (λ (r : List ℕ). oneMore (isRead calls r) j) is)
+
+      pub all-counted : k ≡ length l / COLUMNS → (j : ℕ) → j ≡ counted (readAt calls l) k → j ≡ length (rowsRead calls l)
+      all-counted whole j e = e ∙ ap (counted (readAt calls l)) whole ∙ sym rows-read
+
+      -- written
+      module _ (out₀ out : List ℕ) (j : ℕ) (filled : Filled (readAt calls l) (partAt calls l) out₀ out j k) where
+        pub row-room : k < length l / COLUMNS → widthOf calls * length (rowsRead calls l) ≤ length out₀ → (row : List ℕ)
+            → row ≡ recordAt COLUMNS l k → isRead calls row ≡ true → widthOf calls * j + widthOf calls ≤ length out
+        row-room h fits row is wanted =
+            filled-room (widthOf calls) (readAt calls l) (partAt calls l) out₀ out j k (λ i _. numbers-wide calls (recordAt COLUMNS l i)) filled
+            (length l / COLUMNS) h (subst (λ (n : ℕ). widthOf calls * n ≤ length out₀) rows-read fits) (ap (isRead calls) (sym is) ∙ wanted)
+
+        pub row-written : (row : List ℕ) → row ≡ recordAt COLUMNS l k → (later : List ℕ) (next : ℕ) → next ≡ oneMore (isRead calls row) j
+            → later ≡ placed (isRead calls row) (widthOf calls) j (numbersOf calls row) out
+            → Filled (readAt calls l) (partAt calls l) out₀ later next (k + 1)
+        row-written row is later next more put =
+            filled-next (widthOf calls) (readAt calls l) (partAt calls l) out₀ out j k (λ i _. numbers-wide calls (recordAt COLUMNS l i)) filled
+            later next (more ∙ ap (λ (r : List ℕ). oneMore (isRead calls r) j) is)
+            (put ∙ ap (λ (r : List ℕ). placed (isRead calls r) (widthOf calls) j (numbersOf calls r) out) is)
+
+        pub all-written : k ≡ length l / COLUMNS → out ≡ store out₀ 0 (numbersRead calls l)
+        all-written whole =
+            filled .filled ∙ ap (λ (m : ℕ). store out₀ 0 (picked (readAt calls l) (partAt calls l) m)) whole ∙ ap (store out₀ 0) numbers-read
 
 -- as many numbers as rows and width say
 pub numbers-length : (calls : Bool) (l : List ℕ) → length (numbersRead calls l) ≡ widthOf calls * length (rowsRead calls l)
@@ -60,8 +97,8 @@ module _ (calls : Bool) (row out : List ℕ) (j : ℕ) where
 
   module _ (read : isRead calls row ≡ true) (which : Bool) (e : calls ≡ which) where
     -- there is room for it
-    pub row-room : widthOf calls * j + widthOf calls ≤ length out → widthOf which * j + widthOf which ≤ length out
-    row-room = subst (λ (b : Bool). widthOf b * j + widthOf b ≤ length out) e
+    pub room-for : widthOf calls * j + widthOf calls ≤ length out → widthOf which * j + widthOf which ≤ length out
+    room-for = subst (λ (b : Bool). widthOf b * j + widthOf b ≤ length out) e
 
     pub written-row : (r later : List ℕ) → r ≡ numbersOf which row → later ≡ store out (widthOf which * j) r
         → (j + 1 ≡ oneMore (isRead calls row) j) × (later ≡ placed (isRead calls row) (widthOf calls) j (numbersOf calls row) out)

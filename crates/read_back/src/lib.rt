@@ -5,7 +5,9 @@ pub mod rows;
 use answer::Answer;
 use answer::accept;
 use answer::refuse;
+use chain::ChainAnswer;
 use chain::ChainRefusal;
+use chain::check::check;
 use chain::refusal_numbers;
 ghost use mathlib.Core.Path.{_≡_};
 ghost use Rattle.read_back.specs.ReadBack.{readBackNumbers, ReadDone, countsAfter};
@@ -23,15 +25,18 @@ pub enum ReadBackAnswer {
 pub fn read_back(gap: u64, rows: &[u64], ops: &mut [u64], calls: &mut [u64]) -> ReadBackAnswer
     ensures { λ r. ⌜ ReadDone gap (now (rows .entry)) (now (ops .entry)) (now (calls .entry)) (readBackNumbers r) (now (ops .exit)) (now (calls .exit)) ⌝ }
 {
-    let answer = rows::answer(gap, rows, ops.len(), calls.len());
-    match answer {
-        ReadBackAnswer::Read { ops: _, calls: _ } => {
-            rows::write(rows, false, ops);
-            rows::write(rows, true, calls);
-            answer
+    match check(gap, rows) {
+        ChainAnswer::Passed { rows: _ } => {
+            if !rows::holds(rows, ops.len(), calls.len()) {
+                return ReadBackAnswer::BufferShort;
+            }
+            let found = rows::write(rows, ops, calls);
+            ReadBackAnswer::Read {
+                ops: found.ops as u64,
+                calls: found.calls as u64,
+            }
         }
-        ReadBackAnswer::Refused { why: _ } => answer,
-        ReadBackAnswer::BufferShort => answer,
+        ChainAnswer::Refused { why } => ReadBackAnswer::Refused { why },
     }
 }
 

@@ -1,8 +1,8 @@
 // Internal to the workspace, not open to callers: how many records and calls a row list has, and writing them. `calls` says which of the
 // two is read. Assumes nothing but what each `requires` says.
 ghost use mathlib.Core.Path.{_≡_};
-ghost use mathlib.Core.Bool.{true};
-ghost use Prim.Native.Nat.{_+_, _*_, _/_, _≤_};
+ghost use mathlib.Core.Bool.{true, false};
+ghost use Prim.Native.Nat.{_+_, _*_, _≤_};
 ghost use lib.ListN.{length};
 ghost use Rattle.lists.specs.Lists.{store, oneMore, placed};
 ghost use Rattle.call.specs.Ops.{opRecord};
@@ -10,13 +10,9 @@ ghost use Rattle.call.specs.Flat.{callNumbers};
 ghost use Rattle.copy_row.specs.Columns.{COLUMNS};
 ghost use Rattle.copy_meaning.specs.ReadRow.{callAt, opAt};
 ghost use Rattle.row_test.specs.Caps.{Caps};
-ghost use Rattle.read_back.specs.ReadBack.{roomAnswer, readBackAnswer};
-ghost use Rattle.read_back.specs.Steps.{isRead, numbersOf, widthOf, rowsRead, numbersRead, RowsFit};
-use crate::ReadBackAnswer;
+ghost use Rattle.read_back.specs.Steps.{isRead, numbersOf, widthOf, numbersRead, holdsRead, RowsFit, CountsOf};
 use call::CALL_WIDTH;
 use call::OP_WIDTH;
-use chain::ChainAnswer;
-use chain::check::check;
 use copy_row::cols;
 use copy_row::cols::NUM_COLUMNS;
 use lists::slices::one_more;
@@ -24,45 +20,42 @@ use lists::slices::put_at;
 use records::tables::record_at;
 use row_test::row::words_at;
 
-// The answer for lent buffers of so many numbers.
-pub fn answer(gap: u64, rows: &[u64], ops: usize, calls: usize) -> ReadBackAnswer
-    ensures { λ r. ⌜ r ≡ readBackAnswer gap (now (rows .entry)) ops calls ⌝ }
-{
-    match check(gap, rows) {
-        ChainAnswer::Passed { rows: _ } => room_answer(rows, ops, calls),
-        ChainAnswer::Refused { why } => ReadBackAnswer::Refused { why },
-    }
+// How many operation records and calls are read.
+pub struct Counts {
+    pub ops: usize,
+    pub calls: usize,
 }
 
-// The answer of a list that passes the chain check.
-fn room_answer(rows: &[u64], ops: usize, calls: usize) -> ReadBackAnswer
+// Whether lent buffers of so many numbers hold what is read of a list that passes the chain check. Where they would hold a record and a
+// call for every row, nothing is counted.
+pub fn holds(rows: &[u64], ops: usize, calls: usize) -> bool
     requires { ⌜ RowsFit (now rows) ⌝ }
-    ensures { λ r. ⌜ r ≡ roomAnswer (now (rows .entry)) ops calls ⌝ }
-{
-    let o = count(rows, false);
-    let c = count(rows, true);
-    if (OP_WIDTH * o <= ops) & (CALL_WIDTH * c <= calls) {
-        return ReadBackAnswer::Read {
-            ops: o as u64,
-            calls: c as u64,
-        };
-    }
-    ReadBackAnswer::BufferShort
-}
-
-// How many rows are read.
-fn count(rows: &[u64], calls: bool) -> usize
-    requires { ⌜ RowsFit (now rows) ⌝ }
-    ensures { λ r. ⌜ (r ≡ length (rowsRead calls (now (rows .entry)))) × (r ≤ length (now (rows .entry)) / COLUMNS) ⌝ }
+    ensures { λ r. ⌜ r ≡ holdsRead (now (rows .entry)) ops calls ⌝ }
 {
     let n = rows.len() / NUM_COLUMNS;
-    let mut j: usize = 0;
+    if (OP_WIDTH * n <= ops) & (CALL_WIDTH * n <= calls) {
+        return true;
+    }
+    let found = count(rows);
+    (OP_WIDTH * found.ops <= ops) & (CALL_WIDTH * found.calls <= calls)
+}
+
+// One walk counts both.
+fn count(rows: &[u64]) -> Counts
+    requires { ⌜ RowsFit (now rows) ⌝ }
+    ensures { λ r. ⌜ CountsOf (now (rows .entry)) r ⌝ }
+{
+    let n = rows.len() / NUM_COLUMNS;
+    let mut ops: usize = 0;
+    let mut calls: usize = 0;
     let mut k: usize = 0;
     while k < n {
-        j = one_more(is_read(record_at(rows, NUM_COLUMNS, k), calls), j);
+        let row = record_at(rows, NUM_COLUMNS, k);
+        ops = one_more(is_read(row, false), ops);
+        calls = one_more(is_read(row, true), calls);
         k += 1;
     }
-    j
+    Counts { ops, calls }
 }
 
 // Every live row has a record, and every row that is a call's first a call.
@@ -76,20 +69,25 @@ fn is_read(row: &[u64], calls: bool) -> bool
     row[cols::MU] == 1
 }
 
-// Writes the numbers of every row that is read.
-pub fn write(rows: &[u64], calls: bool, out: &mut [u64])
+// One walk writes both, the records into `ops` and the calls into `calls`, and says how many there are.
+pub fn write(rows: &[u64], ops: &mut [u64], calls: &mut [u64]) -> Counts
     requires { ⌜ RowsFit (now rows) ⌝ }
-    requires { ⌜ widthOf calls * length (rowsRead calls (now rows)) ≤ length (now out) ⌝ }
-    ensures { λ _. ⌜ now (out .exit) ≡ store (now (out .entry)) 0 (numbersRead calls (now (rows .entry))) ⌝ }
+    requires { ⌜ holdsRead (now rows) (length (now ops)) (length (now calls)) ≡ true ⌝ }
+    ensures counts { λ r. ⌜ CountsOf (now (rows .entry)) r ⌝ }
+    ensures ops { λ r. ⌜ now (ops .exit) ≡ store (now (ops .entry)) 0 (numbersRead false (now (rows .entry))) ⌝ }
+    ensures calls { λ r. ⌜ now (calls .exit) ≡ store (now (calls .entry)) 0 (numbersRead true (now (rows .entry))) ⌝ }
 {
     let n = rows.len() / NUM_COLUMNS;
-    let mut j: usize = 0;
+    let mut o: usize = 0;
+    let mut c: usize = 0;
     let mut k: usize = 0;
     while k < n {
         let row = record_at(rows, NUM_COLUMNS, k);
-        j = put_row(row, calls, j, out);
+        o = put_row(row, false, o, ops);
+        c = put_row(row, true, c, calls);
         k += 1;
     }
+    Counts { ops: o, calls: c }
 }
 
 // Writes the numbers of a row, if it is read, behind those of the j before it.

@@ -10,7 +10,7 @@ use lib.ListN.{length}
 use Rattle.call.specs.Ops.{OP-WIDTH}
 use Rattle.call.specs.Flat.{CALL-WIDTH}
 use Rattle.read_back.specs.Steps.{isRead, widthOf}
-use Rattle.read_back.proofs.Walk.{passed-over, row-room, written-row}
+use Rattle.read_back.proofs.Walk.{passed-over, room-for, written-row}
 use Rattle.read_back.proofs.rows.put_row.Statement.{statement}
 use Rattle.read_back.proofs.rows.put_row.Tie as tie
 
@@ -34,7 +34,7 @@ room : (c : tie.Else1) (which : Bool) → let a = entry-of (c .before) .args in
 room c which e =
     let entry = entry-of (c .before) in
     let a = entry .args in
-    row-room (a .calls) (now (a .row)) (now (a .out)) (a .j) (read c) which e (entry .pre .1 (read c))
+    room-for (a .calls) (now (a .row)) (now (a .out)) (a .j) (read c) which e (entry .pre .1 (read c))
 
 call-room : (c : tie.Then2) → let a = entry-of (c .before .before) .args in CALL-WIDTH * a .j + CALL-WIDTH ≤ length (now (a .out))
 call-room c = room (c .before) true (c .if2 .taken)
