@@ -9,9 +9,13 @@ use Rattle.field.specs.Field.{p, addP, subP, mulP}
 use Rattle.field.specs.declared.FieldAnswer.{FieldAnswer}
 use Rattle.field.specs.declared.FieldAnswer.the-variants.{Element, NotElement}
 
+-- the index of the lowest of two numbers that is no element, or 2
+unfoldable pub firstNone : ℕ → ℕ → ℕ
+firstNone a b = cond (ltb a p) (cond (ltb b p) 2 1) 0
+
 -- v, unless one of the two inputs is no element
 unfoldable pub fieldAnswer : ℕ → ℕ → ℕ → FieldAnswer
-fieldAnswer a b v = cond (ltb a p) (cond (ltb b p) (Element v) (NotElement 1)) (NotElement 0)
+fieldAnswer a b v = cond (ltb (firstNone a b) 2) (NotElement (firstNone a b)) (Element v)
 
 unfoldable pub addAnswer : ℕ → ℕ → FieldAnswer
 addAnswer a b = fieldAnswer a b (addP a b)

@@ -2,49 +2,14 @@
 // products (document 01: "Add, subtract, multiply modulo p"). Products by halves of 32 bits, since there are no 128-bit numbers here.
 // Assumes nothing.
 use std::num::wrapping_add_u64;
-ghost use mathlib.Core.List.{[], _∷_};
 ghost use mathlib.Core.Path.{_≡_};
 ghost use Prim.Native.Nat.{_+_, _*_, _/_, _%_, _^_, _<_};
 ghost use Rattle.field.specs.Field.{p, addP, subP, mulP, bitP};
-ghost use Rattle.field.specs.Constants.{inv32, inv16, inv64, inv48, negInv32, negInv64, negSevenInv64, eightInv64};
 
 pub const P: u64 = 18446744069414584321;
 
-// 2^-32, and the constants of the count's borrow, by the names of copy.rs. specs/Constants says of each what it is.
+// 2^-32. The constants of the count's borrow, which are products of it, stand in specs/Constants: no code computes with them.
 pub const INV_SHIFT_32: u64 = 18446744065119617026;
-
-pub const INV_2_32: u64 = INV_SHIFT_32;
-
-pub const INV_2_16: u64 = 18446462594437939201;
-
-pub const INV_2_64: u64 = 18446744065119617025;
-
-pub const INV_2_48: u64 = 18446462594437873665;
-
-pub const NEG_INV_2_32: u64 = 4294967295;
-
-pub const NEG_INV_2_64: u64 = 4294967296;
-
-pub const NEG_SEVEN_INV_2_64: u64 = 30064771072;
-
-pub const EIGHT_INV_2_64: u64 = 18446744035054845953;
-
-// The constants above are the numbers of specs/Constants, in this order.
-pub fn constants() -> [u64; 9]
-    ensures { λ r. ⌜ r ≡ inv32 ∷ inv32 ∷ inv16 ∷ inv64 ∷ inv48 ∷ negInv32 ∷ negInv64 ∷ negSevenInv64 ∷ eightInv64 ∷ [] ⌝ }
-{
-    [
-        INV_SHIFT_32,
-        INV_2_32,
-        INV_2_16,
-        INV_2_64,
-        INV_2_48,
-        NEG_INV_2_32,
-        NEG_INV_2_64,
-        NEG_SEVEN_INV_2_64,
-        EIGHT_INV_2_64,
-    ]
-}
 
 // a + b, with no sum above 2^64 on the way.
 pub fn add(a: u64, b: u64) -> u64

@@ -8,7 +8,7 @@ use answer::accept;
 use answer::refuse;
 use element::P;
 ghost use mathlib.Core.Path.{_≡_};
-ghost use Rattle.field.specs.Answers.{addAnswer, subAnswer, mulAnswer, fieldNumbers};
+ghost use Rattle.field.specs.Answers.{firstNone, addAnswer, subAnswer, mulAnswer, fieldNumbers};
 
 // An element, or which of the two inputs is none.
 pub enum FieldAnswer {
@@ -16,15 +16,26 @@ pub enum FieldAnswer {
     NotElement { place: u64 },
 }
 
+// The index of the lowest of two numbers that is no element, or 2.
+fn first_none(a: u64, b: u64) -> u64
+    ensures { λ r. ⌜ r ≡ firstNone a b ⌝ }
+{
+    if P <= a {
+        return 0;
+    }
+    if P <= b {
+        return 1;
+    }
+    2
+}
+
 // a + b modulo p.
 pub fn field_add(a: u64, b: u64) -> FieldAnswer
     ensures answer { λ r. ⌜ fieldNumbers r ≡ fieldNumbers (addAnswer a b) ⌝ }
 {
-    if P <= a {
-        return FieldAnswer::NotElement { place: 0 };
-    }
-    if P <= b {
-        return FieldAnswer::NotElement { place: 1 };
+    let place = first_none(a, b);
+    if place < 2 {
+        return FieldAnswer::NotElement { place };
     }
     FieldAnswer::Element(element::add(a, b))
 }
@@ -33,11 +44,9 @@ pub fn field_add(a: u64, b: u64) -> FieldAnswer
 pub fn field_sub(a: u64, b: u64) -> FieldAnswer
     ensures answer { λ r. ⌜ fieldNumbers r ≡ fieldNumbers (subAnswer a b) ⌝ }
 {
-    if P <= a {
-        return FieldAnswer::NotElement { place: 0 };
-    }
-    if P <= b {
-        return FieldAnswer::NotElement { place: 1 };
+    let place = first_none(a, b);
+    if place < 2 {
+        return FieldAnswer::NotElement { place };
     }
     FieldAnswer::Element(element::sub(a, b))
 }
@@ -46,11 +55,9 @@ pub fn field_sub(a: u64, b: u64) -> FieldAnswer
 pub fn field_mul(a: u64, b: u64) -> FieldAnswer
     ensures answer { λ r. ⌜ fieldNumbers r ≡ fieldNumbers (mulAnswer a b) ⌝ }
 {
-    if P <= a {
-        return FieldAnswer::NotElement { place: 0 };
-    }
-    if P <= b {
-        return FieldAnswer::NotElement { place: 1 };
+    let place = first_none(a, b);
+    if place < 2 {
+        return FieldAnswer::NotElement { place };
     }
     FieldAnswer::Element(element::mul(a, b))
 }
