@@ -3,8 +3,9 @@ use borrow.Author.Needs.{needs}
 use borrow.Author.Tests.{lt-ltb, le-ltb}
 use mathlib.Core.Path.{_≡_}
 use mathlib.Core.Bool.{true}
-use Prim.Native.Nat.{_-_, _≤_}
+use Prim.Native.Nat.{ℕ, _-_, _≤_}
 use native.Mathlib.Omega.{arith}
+use denote.Ref.{now}
 use lib.Dec.{ltb}
 use lib.ListN.{length, getD}
 use Rattle.copy_row.specs.Columns.{COLUMNS}
@@ -19,6 +20,10 @@ Inv-loop conditions k₀ k = (k ≤ length conditions) × (every (λ i. ltb (get
 abbrev μ-loop : tie.MeasureT-loop
 μ-loop conditions k₀ k = length conditions - k
 
+-- the column that is looked at
+abbrev column : tie.At-loop Inv-loop μ-loop → ℕ
+column c = getD (now (c .before .args .conditions)) (c .loop .k) 0
+
 pub conditions-in-row-spec : {M : Type 1} → statement M
 unfolding conditionsInRow
 conditions-in-row-spec =
@@ -28,7 +33,7 @@ conditions-in-row-spec =
     μ-loop
     (λ c. (omega arith, every-none _))
     (λ c. search needs) (λ c. search needs)
-    (λ c. every-miss _ _ _ (c .before .before .loop-test .taken) (le-ltb _ _ (c .if1 .taken)))
+    (λ c. every-miss _ _ _ (c .before .before .loop-test .taken) (le-ltb (column (c .before .before .before)) COLUMNS (omega arith)))
     (λ c. search needs) (λ c. search needs)
-    (λ c. (omega arith, every-next _ _ (c .before .before .before .loop .inv .1) (lt-ltb _ _ (c .if1 .left))))
+    (λ c. (omega arith, every-next _ _ (c .before .before .before .loop .inv .1) (lt-ltb (column (c .before .before .before)) COLUMNS (omega arith))))
     (λ c. every-end _ _ _ (omega arith) (c .before .loop .inv .1)))

@@ -34,10 +34,10 @@ sum-in-row-spec =
     (tie.spec
     Inv-loop
     μ-loop
-    (λ c. sum-many _ _ (c .if1 .taken))
+    (λ c. sum-many _ _ (omega arith))
     (λ c. (omega arith, every-none _))
     (λ c. search needs) (λ c. search needs) (λ c κs. search needs)
     returns-2
     (λ c. search needs) (λ c. search needs)
     loop-again
-    (λ c. sum-all _ _ _ (c .before .before .if1 .left) (omega arith) (c .before .loop .inv .1)))
+    (λ c. sum-all _ _ _ (omega arith) (omega arith) (c .before .loop .inv .1)))
