@@ -16,9 +16,7 @@ use Rattle.field.specs.Rows.{firstLarge}
 use Rattle.copy_row.specs.Columns.{COLUMNS}
 use Rattle.copy_residues.specs.Range.{columnLimits, firstOut}
 use Rattle.copy_residues.specs.Residues.{residue, RESIDUES}
-use Rattle.copy_residues.specs.RowCheck.{firstResidue, rowFault}
-use Rattle.copy_residues.specs.declared.RowFault.{RowFault}
-use Rattle.copy_residues.specs.declared.RowFault.the-variants.{Fine, NotElement, OutOfRange, NotZero}
+use Rattle.copy_residues.specs.RowCheck.{firstResidue, rowFault, RowFault, Fine, NotElement, OutOfRange, NotZero}
 use Rattle.copy_meaning.specs.RowIff.{InRange}
 
 -- a row in range, its residues 0

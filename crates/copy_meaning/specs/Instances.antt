@@ -8,9 +8,7 @@ use Rattle.field.specs.Field.{p}
 use Rattle.call.specs.Calls.{Op}
 use Rattle.copy_row.specs.Columns.{SRC-INCR, MU}
 use Rattle.copy_row.specs.Rows.{rowOf, tableRow, paddingRow}
-use Rattle.copy_residues.specs.RowCheck.{rowFault}
-use Rattle.copy_residues.specs.declared.RowFault.{RowFault}
-use Rattle.copy_residues.specs.declared.RowFault.the-variants.{Fine, NotElement, OutOfRange, NotZero}
+use Rattle.copy_residues.specs.RowCheck.{rowFault, RowFault, Fine, NotElement, OutOfRange, NotZero}
 
 -- an operation record of one value byte and seven zeroes
 abbrev pub op : (kind src dst count width first end : ℕ) → Op

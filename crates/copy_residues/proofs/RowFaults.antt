@@ -10,8 +10,7 @@ use Rattle.field.specs.Rows.{firstLarge}
 use Rattle.copy_row.specs.Columns.{COLUMNS}
 use Rattle.copy_residues.specs.Range.{firstOut}
 use Rattle.copy_residues.specs.Residues.{RESIDUES}
-use Rattle.copy_residues.specs.RowCheck.{firstResidue, rowFault}
-use Rattle.copy_residues.specs.declared.RowFault.the-variants.{Fine, NotElement, OutOfRange, NotZero}
+use Rattle.copy_residues.specs.RowCheck.{firstResidue, rowFault, Fine, NotElement, OutOfRange, NotZero}
 
 module _ (gap : ℕ) (row : List ℕ) (wide : length row ≡ COLUMNS) where
   pub not-element : firstLarge row < COLUMNS → rowFault gap row ≡ NotElement

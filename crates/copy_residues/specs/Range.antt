@@ -8,10 +8,10 @@ use Rattle.lists.specs.Lists.{first, at}
 use Rattle.field.specs.Field.{p}
 use Rattle.copy_row.specs.Columns.{COLUMNS}
 
--- for each column the least number that is out of range: words, bytes, words and halves in the order of the columns, then nine
--- columns that may be any element
-unfoldable pub columnLimits : List ℕ
-columnLimits =
+-- for each column the least number that is too large: words, bytes, words and halves in the order of the columns, then `top` for the nine
+-- flags
+abbrev pub limitsTo : ℕ → List ℕ
+limitsTo top =
     replicate 2 (2 ^ 32)
     ++ replicate 8 256
     ++ replicate 2 (2 ^ 32)
@@ -21,7 +21,11 @@ columnLimits =
     ++ replicate 2 (2 ^ 32)
     ++ replicate 4 (2 ^ 16)
     ++ replicate 4 (2 ^ 16)
-    ++ replicate 9 p
+    ++ replicate 9 top
+
+-- out of range; a flag may be any element
+unfoldable pub columnLimits : List ℕ
+columnLimits = limitsTo p
 
 -- the lowest index of a column out of range, or 41
 unfoldable pub firstOut : List ℕ → ℕ

@@ -9,8 +9,13 @@ use Rattle.field.specs.Rows.{firstLarge}
 use Rattle.copy_row.specs.Columns.{COLUMNS}
 use Rattle.copy_residues.specs.Range.{firstOut}
 use Rattle.copy_residues.specs.Residues.{residue, RESIDUES}
-use Rattle.copy_residues.specs.declared.RowFault.{RowFault}
-use Rattle.copy_residues.specs.declared.RowFault.the-variants.{Fine, NotElement, OutOfRange, NotZero}
+
+-- nothing, or the first check that fails: 14, a number not below p; 15, a column out of range; 16, a residue not 0, with its number
+pub data RowFault : Type 0 where
+  Fine : RowFault
+  NotElement : RowFault
+  OutOfRange : RowFault
+  NotZero : ℕ → RowFault
 
 -- the lowest index of a residue that is not 0, or 40
 unfoldable pub firstResidue : ℕ → List ℕ → ℕ

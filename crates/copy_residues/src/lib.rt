@@ -30,17 +30,6 @@ pub enum ResidueAnswer {
     Refused { why: RowRefusal },
 }
 
-// What the checks of one row find: nothing, or the first that fails.
-pub enum RowFault {
-    Fine,
-    // 14: a number not below p
-    NotElement,
-    // 15: a column out of range
-    OutOfRange,
-    // 16: a residue not 0, with its number
-    NotZero { index: u64 },
-}
-
 // The residue of a row under a gap that has the given number, 0 to 39.
 pub fn residue(gap: u64, row: &[u64], number: u64) -> ResidueAnswer
     ensures answer { λ r. ⌜ residueNumbers r ≡ residueNumbers (residueAnswer gap (now (row .entry)) number) ⌝ }

@@ -5,69 +5,73 @@ use field::element::P;
 ghost use mathlib.Core.Path.{_≡_};
 ghost use lib.ListN.{length};
 ghost use Rattle.copy_row.specs.Columns.{COLUMNS};
-ghost use Rattle.copy_residues.specs.Range.{firstOut};
+ghost use Rattle.copy_residues.specs.Range.{limitsTo, firstOut};
 
 const BYTE: u64 = 0x100;
 
-const HALF: u64 = 0x1_0000;
+pub const HALF: u64 = 0x1_0000;
 
-const WORD: u64 = 0x1_0000_0000;
+pub const WORD: u64 = 0x1_0000_0000;
 
-// The least number out of range of each column, in the order of the columns: timestamp, VALUE, SRC, SRC_INCR, DST, DST_INCR, COUNT,
-// COUNT_DECR, DST_RES, and nine columns that may be any element.
-const LIMITS: [u64; 41] = [
-    WORD,
-    WORD,
-    BYTE,
-    BYTE,
-    BYTE,
-    BYTE,
-    BYTE,
-    BYTE,
-    BYTE,
-    BYTE,
-    WORD,
-    WORD,
-    HALF,
-    HALF,
-    HALF,
-    HALF,
-    WORD,
-    WORD,
-    HALF,
-    HALF,
-    HALF,
-    HALF,
-    WORD,
-    WORD,
-    HALF,
-    HALF,
-    HALF,
-    HALF,
-    HALF,
-    HALF,
-    HALF,
-    HALF,
-    P,
-    P,
-    P,
-    P,
-    P,
-    P,
-    P,
-    P,
-    P,
-];
+// The least number that is too large for each column, in the order of the columns: timestamp, VALUE, SRC, SRC_INCR, DST, DST_INCR, COUNT,
+// COUNT_DECR, DST_RES; `top` for the nine flags.
+pub fn limits(top: u64) -> [u64; 41]
+    ensures { λ r. ⌜ r ≡ limitsTo top ⌝ }
+{
+    [
+        WORD,
+        WORD,
+        BYTE,
+        BYTE,
+        BYTE,
+        BYTE,
+        BYTE,
+        BYTE,
+        BYTE,
+        BYTE,
+        WORD,
+        WORD,
+        HALF,
+        HALF,
+        HALF,
+        HALF,
+        WORD,
+        WORD,
+        HALF,
+        HALF,
+        HALF,
+        HALF,
+        WORD,
+        WORD,
+        HALF,
+        HALF,
+        HALF,
+        HALF,
+        HALF,
+        HALF,
+        HALF,
+        HALF,
+        top,
+        top,
+        top,
+        top,
+        top,
+        top,
+        top,
+        top,
+        top,
+    ]
+}
 
-// The lowest column out of range, or 41: 15. The limits are bound before the loop, or each turn would store all of them again.
+// The lowest column out of range, or 41: 15. A flag may be any element.
 pub fn first_out(row: &[u64]) -> usize
     requires { ⌜ length (now row) ≡ COLUMNS ⌝ }
     ensures { λ r. ⌜ r ≡ firstOut (now (row .entry)) ⌝ }
 {
-    let limits = LIMITS;
+    let below = limits(P);
     let mut c = 0;
     while c < cols::NUM_COLUMNS {
-        if limits[c] <= row[c] {
+        if below[c] <= row[c] {
             return c;
         }
         c += 1;

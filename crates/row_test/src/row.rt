@@ -7,73 +7,25 @@ ghost use Prim.Native.Nat.{_+_, _^_, _<_};
 ghost use lib.ListN.{length};
 ghost use Rattle.lists.specs.Lists.{at};
 ghost use Rattle.copy_row.specs.Columns.{COUNT, SINGLE, COLUMNS};
-ghost use Rattle.copy_residues.specs.RowCheck.{rowFault};
-ghost use Rattle.copy_residues.specs.declared.RowFault.the-variants.{Fine};
+ghost use Rattle.copy_residues.specs.RowCheck.{rowFault, Fine};
 ghost use Rattle.copy_meaning.specs.ReadRow.{TwoWords, FourHalves, wordsAt, halvesAt};
 ghost use Rattle.copy_meaning.specs.Plain.{FlagsAt, MovesAt, CountsAt, ResultAt, GapAt, TailAt};
 ghost use Rattle.row_test.specs.Caps.{Caps};
 use crate::tests;
+use copy_residues::range::HALF;
+use copy_residues::range::WORD;
+use copy_residues::range::limits;
 use copy_row::cols;
 
-const WORD: u64 = 0x1_0000_0000;
-
-const HALF: u64 = 0x1_0000;
-
-const BYTE: u64 = 0x100;
-
+// What a flag lies below.
 const BIT: u64 = 2;
-
-// The caps of the columns, in their order: timestamp, VALUE, SRC, SRC_INCR, DST, DST_INCR, COUNT, COUNT_DECR, DST_RES, nine flags.
-const CAPS: [u64; 41] = [
-    WORD,
-    WORD,
-    BYTE,
-    BYTE,
-    BYTE,
-    BYTE,
-    BYTE,
-    BYTE,
-    BYTE,
-    BYTE,
-    WORD,
-    WORD,
-    HALF,
-    HALF,
-    HALF,
-    HALF,
-    WORD,
-    WORD,
-    HALF,
-    HALF,
-    HALF,
-    HALF,
-    WORD,
-    WORD,
-    HALF,
-    HALF,
-    HALF,
-    HALF,
-    HALF,
-    HALF,
-    HALF,
-    HALF,
-    BIT,
-    BIT,
-    BIT,
-    BIT,
-    BIT,
-    BIT,
-    BIT,
-    BIT,
-    BIT,
-];
 
 // Each column lies below its cap. No early way out: joined so, columns of one cap are compared at once.
 fn fits(row: &[u64]) -> bool
     requires { ⌜ length (now row) ≡ COLUMNS ⌝ }
     ensures { λ r. ⌜ ((r ≡ true) ↔ Caps (now (row .entry))) ⌝ }
 {
-    let caps = CAPS;
+    let caps = limits(BIT);
     let mut ok = true;
     let mut c = 0;
     while c < cols::NUM_COLUMNS {

@@ -1,12 +1,14 @@
 -- `row::fits`: `ok` says of the columns passed that they lie below their caps. Assumes nothing.
 use mathlib.Core.Logic.{_↔_}
-use mathlib.Core.Path.{_≡_, refl}
+use mathlib.Core.Path.{_≡_, refl, subst}
 use mathlib.Core.Bool.{true}
+use mathlib.Core.List.{List}
 use Prim.Native.Nat.{ℕ, _-_, _≤_, _<_}
 use native.Mathlib.Omega.{arith}
 use borrow.Author.Needs.{needs}
 use borrow.Author.Count.{below-more}
 use borrow.Author.Tests.{ltb-true, lt-ltb}
+use denote.Ref.{now}
 use lib.ListN.{getD}
 use Rattle.lists.specs.Lists.{at}
 use Rattle.copy_row.specs.Columns.{COLUMNS}
@@ -36,8 +38,11 @@ loop-again c =
 returns : tie.Need-returns Inv-loop μ-loop
 unfolding Caps caps columnLimits
 returns c =
-    let whole : c .before .loop .c ≡ COLUMNS = omega arith in
-    rw whole at (c .before .loop .inv .1)
+    let top = c .before in
+    let row = now (top .before .before .before .args .row) in
+    let whole : top .loop .c ≡ COLUMNS = omega arith in
+    subst (λ (l : List ℕ). (top .loop .ok ≡ true) ↔ ((j : ℕ) → j < COLUMNS → at row j < getD l j 0)) (top .before .limits .ensures)
+    (rw whole at (top .loop .inv .1))
 
 pub fits-spec : {M : Type 1} → statement M
 fits-spec =
@@ -45,6 +50,7 @@ fits-spec =
     (tie.spec
     Inv-loop
     μ-loop
+    (λ c κs. search needs)
     (λ c. (omega arith, (λ h j l. absurd (omega arith), λ q. refl)))
     (λ c. search needs) (λ c. search needs) (λ c. search needs) (λ c. search needs) (λ c. search needs)
     (λ c. search needs)
