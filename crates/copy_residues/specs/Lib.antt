@@ -1,5 +1,5 @@
 pub mod Range
 pub mod Residues
-pub mod Cells
+pub mod Inner
 pub mod RowCheck
 pub mod Answers

@@ -10,7 +10,7 @@ ghost use Rattle.field.specs.Rows.{Elements};
 ghost use Rattle.field.specs.Carries.{carryP, carryLow, carryHigh};
 ghost use Rattle.copy_row.specs.Columns.{COLUMNS};
 ghost use Rattle.copy_residues.specs.Residues.{halvesWord, step, incrLow, incrHigh, decrLow, resLow, resHigh, gapLow, gapHigh, borrow};
-ghost use Rattle.copy_residues.specs.Cells.{Is};
+ghost use Rattle.copy_residues.specs.Inner.{Is};
 
 // The word of the two halves from column c on, at once where they are halves.
 pub fn halves_word(row: &[u64], c: usize) -> u64

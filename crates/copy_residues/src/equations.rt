@@ -14,7 +14,7 @@ ghost use Rattle.copy_row.specs.Columns.{COUNT, IS-SET, IS-WRITE, COLUMNS};
 ghost use Rattle.copy_residues.specs.Residues.{step, resLow, resHigh, gapLow, gapHigh, borrow, incrHigh};
 ghost use Rattle.copy_residues.specs.Residues.{impliesMu, oneHot, firstWrite, gatedBit, dstResNonWrite, singleLane, borrowImplies};
 ghost use Rattle.copy_residues.specs.Residues.{borrowImpliesZero, endImplies, muComIs, muComWideIs, noWrap, gapNoWrap};
-ghost use Rattle.copy_residues.specs.Cells.{Is};
+ghost use Rattle.copy_residues.specs.Inner.{Is};
 
 // range_first, range_end, range_single, range_mu, range_is_set, range_is_write: column c is a bit. Without it a flag could be any element
 // and weigh an access by it.

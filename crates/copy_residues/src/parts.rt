@@ -6,7 +6,7 @@ ghost use Prim.Native.Nat.{_<_};
 ghost use Rattle.field.specs.Field.{p};
 ghost use Rattle.field.specs.Rows.{Elements};
 ghost use Rattle.copy_row.specs.Columns.{COLUMNS};
-ghost use Rattle.copy_residues.specs.Cells.{PartsOf};
+ghost use Rattle.copy_residues.specs.Inner.{PartsOf};
 
 // The gap, and what a row's residues share.
 pub struct Parts {

@@ -8,7 +8,7 @@ ghost use Prim.Native.Nat.{_<_};
 ghost use Rattle.field.specs.Rows.{Elements};
 ghost use Rattle.copy_row.specs.Columns.{COLUMNS};
 ghost use Rattle.copy_residues.specs.Residues.{residue, RESIDUES};
-ghost use Rattle.copy_residues.specs.Cells.{PartsOf};
+ghost use Rattle.copy_residues.specs.Inner.{PartsOf};
 
 pub const NUM_RESIDUES: u64 = 40;
 

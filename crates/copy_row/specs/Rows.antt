@@ -8,7 +8,6 @@ use lib.ListN.{replicate}
 use Rattle.lists.specs.Lists.{eightAt}
 use Rattle.words.specs.Words.{words, halves, wrapAdd, wrapSub, bit}
 use Rattle.call.specs.Calls.{Call, Op}
-use Rattle.copy_row.specs.declared.CopyOperation.{CopyOperation}
 
 -- what the row after this one goes on with: SRC_INCR, DST_INCR and COUNT_DECR
 abbrev pub wrapped : Op → Call
@@ -59,13 +58,3 @@ tableRow o = rowOf 1 o
 -- a padding row
 unfoldable pub paddingRow : List ℕ
 paddingRow = replicate 12 0 ++ (8 ∷ replicate 5 0) ++ (8 ∷ replicate 3 0) ++ (8 ∷ replicate 18 0)
-
--- the operation record that the code's struct holds
-abbrev pub copyOperation : CopyOperation → Op
-copyOperation o =
-    record {
-      call = record { kind = o .kind; stamp = o .timestamp; src = o .src; dst = o .dst; count = o .count };
-      piece = record { width = o .width; value = o .value };
-      first = o .first;
-      end = o .end;
-    }

@@ -23,7 +23,8 @@ use Rattle.memw.proofs.Wide.{memw-wide, aligned-wide, register-wide}
 use Rattle.access.specs.RegisterRecord.{registerLimits, goodRegister}
 use Rattle.access.specs.Tables.{recordWidth}
 use Rattle.kinds.specs.Kinds.{kindAnswer}
-use Rattle.memw.specs.Tables.{rowWidth, recordKind, goodRecord, recordRow, tablePadding, memwRowAt, memwAnswer, memwAfter}
+use Rattle.memw.specs.Tables.{rowWidth, recordKind, goodRecord, recordRow, tablePadding, memwAnswer, memwAfter}
+use Rattle.memw.specs.Inner.{memwRowAt}
 use Rattle.access.specs.declared.AccessTable.{AccessTable}
 use Rattle.access.specs.declared.AccessTable.the-variants.{General, Aligned, Register}
 

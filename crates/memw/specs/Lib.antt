@@ -4,3 +4,4 @@ pub mod RegisterColumns
 pub mod Rows
 pub mod CarryExamples
 pub mod Tables
+pub mod Inner

@@ -6,7 +6,6 @@ use lib.Dec.{eqb, leb}
 use Rattle.lists.specs.Lists.{at, eightAt}
 use Rattle.words.specs.Words.{words, halves, bit}
 use Rattle.access.specs.Access.{Access}
-use Rattle.memw.specs.declared.MemwOperation.{MemwOperation}
 use Rattle.memw.specs.declared.RegRow.{RegRow}
 
 -- What stands in a row
@@ -79,20 +78,6 @@ registerRow r =
     ++ multiplicities (r .«is_read»)
 
 -- The records
-
--- the access that the code's struct holds
-abbrev pub memwOperation : MemwOperation → Access
-memwOperation o =
-    record {
-      isRegister = o .«is_register»;
-      address = o .«base_address»;
-      value = o .value;
-      timestamp = o .timestamp;
-      width = o .width;
-      isRead = o .«is_read»;
-      old = o .old;
-      oldTimestamps = o .«old_timestamp»;
-    }
 
 -- the register record of 8 numbers: "index (16 bits), timestamp, values, olds, low old stamp, is_read"
 abbrev pub regRowOf : List ℕ → RegRow

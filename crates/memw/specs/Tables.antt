@@ -6,7 +6,7 @@ use mathlib.Core.List.{List}
 use lib.ListN.{length, replicate}
 use Rattle.answer.specs.declared.Answer.{Answer}
 use Rattle.records.specs.Records.{recordCount, firstBad}
-use Rattle.records.specs.Table.{tableAnswer, rowAt, tableAfter, TableDone}
+use Rattle.records.specs.Table.{tableAnswer, tableAfter, TableDone}
 use Rattle.records.specs.declared.TableAnswer.{TableAnswer}
 use Rattle.access.specs.Access.{accessOf, goodAccess}
 use Rattle.access.specs.RegisterRecord.{goodRegister}
@@ -47,10 +47,6 @@ recordRow Register r = registerRow (regRowOf r)
 -- a padding row
 abbrev pub tablePadding : AccessTable → List ℕ
 tablePadding t = replicate (rowWidth t) 0
-
--- row k of the table of a record list: that of record k, or padding past the last record
-abbrev pub memwRowAt : AccessTable → List ℕ → ℕ → List ℕ
-memwRowAt t records k = rowAt (recordWidth t) (recordRow t) (tablePadding t) records k
 
 -- what the maker of a table answers, and its lent table afterwards
 unfoldable pub memwAnswer : AccessTable → ℕ → List ℕ → ℕ → TableAnswer

@@ -1,4 +1,4 @@
 pub mod Residues
-pub mod Flags
+pub mod Inner
 pub mod Answers
 pub mod MadeRows

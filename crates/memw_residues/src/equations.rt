@@ -8,7 +8,7 @@ ghost use lib.ListN.{length};
 ghost use Rattle.lists.specs.Lists.{at};
 ghost use Rattle.field.specs.Field.{p, addP, subP, mulP, bitP};
 ghost use Rattle.memw_residues.specs.Residues.{muSum, w2, flagResidue};
-ghost use Rattle.memw_residues.specs.Flags.{FlagElements};
+ghost use Rattle.memw_residues.specs.Inner.{FlagElements};
 
 // A column is a bit. Without it a multiplicity, a flag or a carry could be any element.
 pub fn bit(row: &[u64], column: usize) -> u64

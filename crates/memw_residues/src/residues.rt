@@ -18,7 +18,7 @@ ghost use Rattle.field.specs.Rows.{Elements};
 ghost use Rattle.memw.specs.Tables.{rowWidth};
 ghost use Rattle.access.specs.declared.AccessTable.the-variants.{General, Aligned, Register};
 ghost use Rattle.memw_residues.specs.Residues.{memwFlags, alignedFlags, memwResidue, registerResidue, residueCount, tableResidue};
-ghost use Rattle.memw_residues.specs.Flags.{FlagElements};
+ghost use Rattle.memw_residues.specs.Inner.{FlagElements};
 ghost use Rattle.memw_residues.specs.Answers.{memwResidueAnswer};
 
 // The flags of a row of the general table.

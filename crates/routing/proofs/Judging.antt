@@ -16,7 +16,7 @@ use Rattle.access.specs.declared.AccessTable.the-variants.{General, Aligned, Re
 use Rattle.classify.specs.Classify.{isRegisterOp, isAlignedOp, tableFor}
 use Rattle.classify.specs.TableRecord.{addressFits}
 use Rattle.routing.specs.Routing.{three, countIn, countOf, countsOf, routable, recordRefusal, firstRefused, fits, allFit, routed, routeAnswer}
-use Rattle.routing.specs.Steps.{judged, tableBy, Holds}
+use Rattle.routing.specs.Inner.{judged, tableBy, Holds}
 use Rattle.routing.specs.declared.RouteAnswer.{RouteAnswer}
 use Rattle.routing.specs.declared.RouteAnswer.the-variants.{Routed, TooManyRecords, BadRecord, BadAddress, BufferShort}
 use Rattle.routing.specs.declared.split.Counts.{Counts}

@@ -19,7 +19,7 @@ use Rattle.classify.specs.Classify.{isRegisterOp, isAlignedOp, classify, tableO
 use Rattle.classify.specs.declared.MemwRoute.the-variants as route
 use Rattle.classify.specs.TableRecord.{tableRecord}
 use Rattle.routing.specs.Routing.{three, countIn, Lists, listOf, roomsOf, goesTo, listedAs, routedOf, countOf}
-use Rattle.routing.specs.Steps.{tableBy, withOne, Few, RoomFor, Holds, Put}
+use Rattle.routing.specs.Inner.{tableBy, withOne, Few, RoomFor, Holds, Put}
 use Rattle.routing.specs.declared.split.Counts.{Counts}
 
 -- the table of an access is the one that its two tests lead to

@@ -1,3 +1,3 @@
 pub mod Routing
-pub mod Steps
+pub mod Inner
 pub mod InOrder

@@ -20,7 +20,7 @@ ghost use Rattle.records.specs.Records.{recordCount, recordAt};
 ghost use Rattle.access.specs.Access.{ACCESS-WIDTH, goodAccess};
 ghost use Rattle.access.specs.declared.AccessTable.{AccessTable};
 ghost use Rattle.routing.specs.Routing.{three, lists, roomsOf, routeAnswer, listsAfter};
-ghost use Rattle.routing.specs.Steps.{judged, tableBy, withOne, Few, RoomFor, Holds, Put, Written};
+ghost use Rattle.routing.specs.Inner.{judged, tableBy, withOne, Few, RoomFor, Holds, Put, Written};
 
 // A number for each list: how many records went there, or how long it is.
 pub struct Counts {

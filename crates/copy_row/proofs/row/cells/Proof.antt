@@ -9,7 +9,8 @@ use Rattle.lists.specs.Lists.{eightAt}
 use Rattle.lists.proofs.Numbers.{numbersAt}
 use Rattle.words.specs.Words.{words, halves, bit}
 use Rattle.call.specs.Calls.{Op}
-use Rattle.copy_row.specs.Rows.{copyOperation, wrapped, dstRes, muCom, rowOf, tableRow}
+use Rattle.copy_row.specs.Rows.{wrapped, dstRes, muCom, rowOf, tableRow}
+use Rattle.copy_row.specs.Inner.{copyOperation}
 use Rattle.copy_row.proofs.row.cells.Statement.{statement}
 use Rattle.copy_row.proofs.row.cells.Tie as tie
 

@@ -8,7 +8,8 @@ use Rattle.lists.specs.Lists.{at, eightAt}
 use Rattle.lists.proofs.Numbers.{numbersAt}
 use Rattle.words.specs.Words.{words, bit}
 use Rattle.access.specs.Access.{Access}
-use Rattle.memw.specs.Rows.{writeFlags, addressParts, alignedRow, memwOperation}
+use Rattle.memw.specs.Rows.{writeFlags, addressParts, alignedRow}
+use Rattle.memw.specs.Inner.{memwOperation}
 use Rattle.memw.proofs.rows.aligned_cells.Statement.{statement}
 use Rattle.memw.proofs.rows.aligned_cells.Tie as tie
 

@@ -8,7 +8,8 @@ use Rattle.lists.specs.Lists.{eightAt}
 use Rattle.lists.proofs.Numbers.{numbersAt}
 use Rattle.words.specs.Words.{words, bit}
 use Rattle.access.specs.Access.{Access}
-use Rattle.memw.specs.Rows.{writeFlags, carries, stampWords, memwRow, memwOperation}
+use Rattle.memw.specs.Rows.{writeFlags, carries, stampWords, memwRow}
+use Rattle.memw.specs.Inner.{memwOperation}
 use Rattle.memw.proofs.rows.memw_cells.Statement.{statement}
 use Rattle.memw.proofs.rows.memw_cells.Tie as tie
 

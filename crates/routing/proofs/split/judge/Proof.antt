@@ -18,7 +18,7 @@ use Rattle.access.proofs.Good.{good-length}
 use Rattle.classify.specs.Classify.{isRegisterOp, isAlignedOp, tableFor}
 use Rattle.classify.specs.TableRecord.{addressFits}
 use Rattle.routing.specs.Routing.{routable, firstRefused}
-use Rattle.routing.specs.Steps.{tableBy}
+use Rattle.routing.specs.Inner.{tableBy}
 use Rattle.routing.specs.declared.RouteAnswer.the-variants.{BadRecord, BadAddress}
 use Rattle.routing.proofs.Routes.{table-by, Counted, counted-start, counted-next, counted-few}
 use Rattle.routing.proofs.Judging.{misplaced, bad-refused, misplaced-refused, placed-routable, judged-stop, judged-end}

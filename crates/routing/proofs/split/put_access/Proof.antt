@@ -16,7 +16,7 @@ use Rattle.access.specs.declared.AccessTable.{AccessTable}
 use Rattle.access.specs.declared.AccessTable.the-variants.{General, Aligned, Register}
 use Rattle.access.proofs.Good.{good-length}
 use Rattle.classify.specs.Classify.{tableFor}
-use Rattle.routing.specs.Steps.{tableBy, withOne}
+use Rattle.routing.specs.Inner.{tableBy, withOne}
 use Rattle.routing.proofs.Routes.{table-by, placed-here, placed-not, put-of}
 use Rattle.routing.proofs.split.put_access.Statement.{statement}
 use Rattle.routing.proofs.split.put_access.Tie as tie

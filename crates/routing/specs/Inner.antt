@@ -1,4 +1,4 @@
--- What one record does to the counts and to the lent lists: definitions that the contracts of inner functions cite. Assumes nothing.
+-- What one record does to the counts and to the lent lists: cited by the contracts of inner functions alone. Assumes nothing.
 use mathlib.Core.Path.{_≡_}
 use Prim.Native.Nat.{ℕ, _+_, _*_, _^_, _≤_, _<_}
 use mathlib.Core.Bool.{Bool, true, cond}

@@ -1,4 +1,5 @@
--- Flags that are elements, as their residues ask. Document 01: "An element is a whole number below p". Assumes nothing.
+-- Flags that are elements, as their residues ask. Document 01: "An element is a whole number below p". Cited
+-- by the contracts of inner functions alone. Assumes nothing.
 use Prim.Native.Nat.{_<_}
 use Rattle.field.specs.Field.{p}
 use Rattle.memw_residues.specs.declared.Flags.{Flags}

@@ -1,5 +1,5 @@
--- What the code of the residues is given beside a row of 41 elements: what many residues of a row share, worked out once. Assumes
--- nothing.
+-- What the code of the residues is given beside a row of 41 elements: what many residues of a row share, worked out once. Cited
+-- by the contracts of inner functions alone. Assumes nothing.
 use mathlib.Core.Path.{_≡_}
 use mathlib.Core.List.{List}
 use Prim.Native.Nat.{ℕ, _<_}
