@@ -11,9 +11,7 @@ use lib.ListN.{length}
 use Rattle.lists.specs.Lists.{All}
 use Rattle.records.proofs.RecordList.{records-whole}
 use Rattle.copy_row.specs.Columns.{COLUMNS}
-use Rattle.copy_residues.specs.RowCheck.{rowFault}
-use Rattle.copy_residues.specs.declared.RowFault.{RowFault}
-use Rattle.copy_residues.specs.declared.RowFault.the-variants.{Fine, NotElement, OutOfRange, NotZero}
+use Rattle.copy_residues.specs.RowCheck.{rowFault, RowFault, Fine, NotElement, OutOfRange, NotZero}
 use Rattle.row_test.specs.Caps.{Caps}
 use Rattle.row_test.proofs.Columns.{caps-of-fine}
 use Rattle.chain.specs.Link.{Before, closed, linked, beforeOf}

@@ -12,8 +12,7 @@ use Rattle.lists.proofs.Listed.{listed-left, listed-over, listed-length}
 use Rattle.records.specs.Records.{recordCount, recordAt, recordsIn}
 use Rattle.records.proofs.Records.{record-length}
 use Rattle.copy_row.specs.Columns.{COLUMNS}
-use Rattle.copy_residues.specs.RowCheck.{rowFault}
-use Rattle.copy_residues.specs.declared.RowFault.the-variants.{Fine, NotElement, OutOfRange, NotZero}
+use Rattle.copy_residues.specs.RowCheck.{rowFault, Fine, NotElement, OutOfRange, NotZero}
 use Rattle.row_test.proofs.Columns.{caps-of-fine}
 use Rattle.chain.specs.Link.{Before, closed, unended, dead, linked, beforeOf}
 use Rattle.chain.specs.Chain.{tableRows, onFault, onEnd, chainFrom, chainAnswer}

@@ -1,6 +1,6 @@
 -- What the room in the lent buffers decides of a list that passes the chain check, and what read-back has shown at each of its ways out.
 -- Document 01: "Read-back checks the chain, then 9". Assumes nothing.
-use mathlib.Core.Path.{_≡_, refl, sym, ap, _∙_}
+use mathlib.Core.Path.{_≡_, refl, sym, _∙_}
 use mathlib.Core.Bool.{Bool, true, false, cond, _&&_, false≢true}
 use mathlib.Core.List.{List}
 use Prim.Native.Nat.{ℕ, _*_, _/_, _≤_}
@@ -13,7 +13,6 @@ use Rattle.call.specs.Ops.{OP-WIDTH}
 use Rattle.call.specs.Flat.{CALL-WIDTH}
 use Rattle.copy_row.specs.Columns.{COLUMNS}
 use Rattle.chain.specs.Chain.{chainAnswer}
-use Rattle.chain.specs.declared.ChainAnswer as Chain
 use Rattle.chain.specs.declared.ChainAnswer.the-variants as chain
 use Rattle.chain.specs.declared.ChainRefusal.{ChainRefusal}
 use Rattle.chain.proofs.Passed.{Accepted, passing, passing-caps}

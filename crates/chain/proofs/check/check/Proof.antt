@@ -17,8 +17,7 @@ use Rattle.records.specs.Records.{recordAt}
 use Rattle.records.proofs.Records.{record-part}
 use Rattle.copy_row.specs.Columns.{COLUMNS}
 use Rattle.copy_residues.specs.Residues.{residue, RESIDUES}
-use Rattle.copy_residues.specs.RowCheck.{firstResidue, rowFault}
-use Rattle.copy_residues.specs.declared.RowFault.the-variants.{Fine, NotZero}
+use Rattle.copy_residues.specs.RowCheck.{firstResidue, rowFault, Fine, NotZero}
 use Rattle.copy_residues.proofs.ZeroResidues.{notZero, found, passed}
 use Rattle.copy_residues.proofs.RowFaults.{not-element, out-of-range, not-zero, fine}
 use Rattle.row_test.proofs.Columns.{caps-of-fine}
@@ -107,7 +106,7 @@ wide c = ap length (is c) ∙ row-length (rows-of (top-of c)) (top-of c .rows .k
 
 -- its numbers are elements once the first test is passed
 elements-of : (c : Out) → Elements COLUMNS (row-of (large-row (out-large c)))
-elements-of c = elements _ _ (wide (large-row (out-large c))) (rw (← out-large c .first-large .ensures) (c .before .if6 .left))
+elements-of c = elements _ _ (wide (large-row (out-large c))) (omega (arith, out-large c .first-large .ensures))
 
 -- where the arms of the quick test meet, the row has no fault
 fine-row : (c : Joined) → rowFault (gap-of (top-of (joined-row c))) (row-of (joined-row c)) ≡ Fine
@@ -116,7 +115,7 @@ fine-row c =
     ⊎-elim
     (λ w.
     let e : w .6 .i ≡ RESIDUES = omega (arith, w .7 .left, w .6 .inv .0) in
-    fine _ _ (wide (joined-row c)) (rw (← w .1 .ensures) (w .2 .left)) (rw (← w .3 .ensures) (w .4 .left))
+    fine _ _ (wide (joined-row c)) (omega (arith, w .1 .ensures, w .2 .left)) (rw (← w .3 .ensures) (w .4 .left))
     (omega (arith, w .6 .inv .1 ∙ first-end _ _ _ (omega arith), e)))
     (λ w. c .before .is-plain .ensures .0 (not-false _ (w .left)))
     (c .if5 .came)
@@ -146,7 +145,7 @@ lowest c other =
     let out = parts-out (residue-parts c) in
     let i = c .before .before .loop .inv .1 ∙ first-hit _ _ _ (omega arith) (found (right c) other) in
     let large = out-large out in
-    not-zero _ _ (wide (large-row large)) (rw (← large .first-large .ensures) (out .before .if6 .left))
+    not-zero _ _ (wide (large-row large)) (omega (arith, large .first-large .ensures))
     (rw (← out .first-out .ensures) (residue-parts c .before .if7 .left)) (omega (arith, i))
     ∙ ap NotZero i
 
@@ -158,9 +157,9 @@ check-spec =
     μ-loop
     Inv-rows
     μ-rows
-    (λ c. gap-large _ _ (c .if1 .taken))
-    (λ c. not-rows _ _ (c .before .if1 .left) (c .if2 .taken))
-    (λ c. walk-start _ _ (c .before .if1 .left) (c .if2 .left))
+    (λ c. gap-large _ _ (omega arith))
+    (λ c. not-rows _ _ (omega arith) (λ e. omega arith))
+    (λ c. walk-start _ _ (omega arith) (omega arith))
     (λ c. search needs) (λ c. search needs) (λ c. search needs) (λ c. search needs)
     (λ c. search needs) (λ c. search needs) (λ c. search needs)
     (λ c κs. c .before .before .rows .inv .stood)
@@ -190,13 +189,13 @@ check-spec =
     from-unended _ _ _ _ (past .before .before .before .rows .inv) (omega arith) (sym (past .unended .ensures) ∙ c .if4 .taken))
     (λ c.
     let row = large-row (c .before) in
-    from-element _ _ _ _ (walk row) (omega arith) _ (is row) (not-element _ _ (wide row) (rw (← c .before .first-large .ensures) (c .if6 .taken))))
+    from-element _ _ _ _ (walk row) (omega arith) _ (is row) (not-element _ _ (wide row) (omega (arith, c .before .first-large .ensures))))
     (λ c.
     let out = c .before in
     let large = out-large out in
     let row = large-row large in
     from-range _ _ _ _ (walk row) (omega arith) _ (is row)
-    (out-of-range _ _ (wide row) (rw (← large .first-large .ensures) (out .before .if6 .left)) (rw (← out .first-out .ensures) (c .if7 .taken))))
+    (out-of-range _ _ (wide row) (omega (arith, large .first-large .ensures)) (rw (← out .first-out .ensures) (c .if7 .taken))))
     (λ c.
     let row = large-row (out-large (parts-out (residue-parts (c .before)))) in
     from-residue _ _ _ _ (walk row) (omega arith) _ (is row) _ (lowest (c .before) (c .if8 .taken)))

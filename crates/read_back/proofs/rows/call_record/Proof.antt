@@ -13,7 +13,9 @@ call-record-spec =
     tie.close
     (tie.spec
     (λ c. search needs) (λ c. search needs)
-    (λ c. omega (arith, flag-bit _ (c .before .before .before .pre .1) IS-WRITE (lit≤ tt) (lit< tt)))
+    (λ c.
+    let bit = flag-bit _ (c .before .before .before .pre .1) in
+    omega (arith, bit IS-SET (lit≤ tt) (lit< tt), bit IS-WRITE (lit≤ tt) (lit< tt)))
     (λ c.
     let bit = flag-bit _ (c .before .before .before .pre .1) in
     omega (arith, bit IS-SET (lit≤ tt) (lit< tt), bit IS-WRITE (lit≤ tt) (lit< tt)))
