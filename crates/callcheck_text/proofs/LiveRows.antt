@@ -26,7 +26,7 @@ use Rattle.copy_meaning.specs.ReadRow.{opAt}
 use Rattle.chain.specs.Chain.{tableRows}
 use Rattle.chain.proofs.Rows.{rows-count}
 use Rattle.read_back.specs.ReadBack.{liveRows, readOps}
-use Rattle.read_back.specs.Steps.{rowsRead, numbersRead}
+use Rattle.read_back.specs.Inner.{rowsRead, numbersRead}
 use Rattle.read_back.proofs.Walk.{numbers-length}
 use Rattle.whole_calls.specs.Demand.{WholeCalls}
 use Rattle.whole_calls.proofs.Accepted.{cutTry, tries-fit, tries-wrote}

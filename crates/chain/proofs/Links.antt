@@ -10,9 +10,9 @@ use lib.ListN.{length}
 use Rattle.lists.specs.Lists.{at, same}
 use Rattle.copy_row.specs.Columns.{TIMESTAMP, SRC, SRC-INCR, DST, DST-INCR, COUNT, COUNT-DECR, FIRST, END, IS-SET, IS-WRITE, MU, COLUMNS}
 use Rattle.copy_meaning.specs.ReadRow.{wordsAt, halvesAt}
-use Rattle.row_test.specs.Caps.{Caps}
+use Rattle.row_test.specs.Inner.{Caps}
 use Rattle.chain.specs.Link.{closed, unended, dead, shown, handedOn, linked, beforeOf}
-use Rattle.chain.specs.Standing.{standing, Stood, isUnended}
+use Rattle.chain.specs.Inner.{standing, Stood, isUnended}
 
 -- Seven equal numbers, as the code joins the tests
 

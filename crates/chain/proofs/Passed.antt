@@ -12,7 +12,7 @@ use Rattle.lists.specs.Lists.{All}
 use Rattle.records.proofs.RecordList.{records-whole}
 use Rattle.copy_row.specs.Columns.{COLUMNS}
 use Rattle.copy_residues.specs.RowCheck.{rowFault, RowFault, Fine, NotElement, OutOfRange, NotZero}
-use Rattle.row_test.specs.Caps.{Caps}
+use Rattle.row_test.specs.Inner.{Caps}
 use Rattle.row_test.proofs.Columns.{caps-of-fine}
 use Rattle.chain.specs.Link.{Before, closed, linked, beforeOf}
 use Rattle.chain.specs.Chain.{tableRows, onFault, chainFrom, chainAnswer, refusalNumbers, chainNumbers}

@@ -16,7 +16,7 @@ use Rattle.copy_residues.specs.RowCheck.{rowFault, Fine, NotElement, OutOfRange
 use Rattle.row_test.proofs.Columns.{caps-of-fine}
 use Rattle.chain.specs.Link.{Before, closed, unended, dead, linked, beforeOf}
 use Rattle.chain.specs.Chain.{tableRows, onFault, onEnd, chainFrom, chainAnswer}
-use Rattle.chain.specs.Standing.{standing, Stood, isUnended}
+use Rattle.chain.specs.Inner.{standing, Stood, isUnended}
 use Rattle.chain.specs.declared.ChainAnswer.the-variants.{Passed, Refused}
 use Rattle.chain.specs.declared.ChainRefusal.the-variants.{GapTooLarge, NotRows, BadElement, BadRange, BadResidue, LinkBroken, NotEnded}
 use Rattle.chain.proofs.Links.{stood-none, stood-row, standing-none, standing-row}

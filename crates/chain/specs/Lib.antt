@@ -1,3 +1,3 @@
 pub mod Link
 pub mod Chain
-pub mod Standing
+pub mod Inner

@@ -12,7 +12,8 @@ use Rattle.field.proofs.Laws.{mulP-small}
 use Rattle.copy_row.specs.Columns.{TIMESTAMP, VALUE, SRC, SRC-INCR, DST, DST-INCR, COUNT, COUNT-DECR, DST-RES, SINGLE, COLUMNS}
 use Rattle.copy_residues.specs.Range.{columnLimits}
 use Rattle.copy_residues.specs.Residues.{halvesWord, step}
-use Rattle.copy_meaning.specs.ReadRow.{TwoWords, FourHalves, wordsAt, halvesAt}
+use Rattle.copy_meaning.specs.ReadRow.{wordsAt, halvesAt}
+use Rattle.copy_meaning.specs.Inner.{TwoWords, FourHalves}
 use Rattle.copy_meaning.specs.RowIff.{InRange}
 
 -- a list is its numbers one by one, and a row its 41 columns

@@ -18,7 +18,8 @@ use Rattle.copy_row.specs.Columns.{VALUE, SRC, DST, COUNT, SINGLE, IS-SET, IS-W
 use Rattle.copy_row.specs.Rows.{dstRes, muCom, rowOf}
 use Rattle.copy_residues.specs.Range.{columnLimits}
 use Rattle.copy_meaning.specs.Steps.{RowStep}
-use Rattle.copy_meaning.specs.ReadRow.{wordsAt, widthAt, emptyAt}
+use Rattle.copy_meaning.specs.ReadRow.{wordsAt, widthAt}
+use Rattle.copy_meaning.specs.Inner.{emptyAt}
 use Rattle.copy_meaning.specs.RowIff.{InRange}
 use Rattle.copy_meaning.proofs.ReadBack.{mu-back, first-back, end-back, src-back, dst-back, count-back, src-incr-back, dst-incr-back}
 use Rattle.copy_meaning.proofs.ReadBack.{count-decr-back, dst-res-back, kind-read, width-read}

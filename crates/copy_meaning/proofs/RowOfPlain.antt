@@ -16,7 +16,8 @@ use Rattle.copy_row.specs.Columns.{TIMESTAMP, VALUE, SRC, SRC-INCR, DST, DST-IN
 use Rattle.copy_row.specs.Columns.{MU, MU-COM, MU-COM-WIDE, COLUMNS}
 use Rattle.copy_row.specs.Rows.{dstRes, muCom, rowOf}
 use Rattle.copy_meaning.specs.Steps.{RowStep}
-use Rattle.copy_meaning.specs.ReadRow.{TwoWords, FourHalves, wordsAt, halvesAt, widthAt, callAt, opAt}
+use Rattle.copy_meaning.specs.ReadRow.{wordsAt, halvesAt, widthAt, callAt, opAt}
+use Rattle.copy_meaning.specs.Inner.{TwoWords, FourHalves}
 use Rattle.copy_meaning.specs.RowIff.{InRange}
 use Rattle.copy_meaning.specs.Plain.{Plain}
 use Rattle.copy_meaning.proofs.Columns.{columns-of, stamp-words, src-words, dst-words, count-words, src-halves, dst-halves, count-halves}

@@ -10,7 +10,8 @@ use Rattle.field.specs.Carries.{carryLow, carryHigh}
 use Rattle.field.proofs.Carry.{sum-of-zero, zero-of-sum}
 use Rattle.copy_row.specs.Columns.{SRC, DST, COUNT, COUNT-DECR, DST-RES, SINGLE}
 use Rattle.copy_residues.specs.Residues.{halvesWord, step, incrLow, incrHigh, decrLow, decrHigh, resLow, resHigh, gapLow, gapHigh}
-use Rattle.copy_meaning.specs.ReadRow.{TwoWords, FourHalves, wordsAt, halvesAt}
+use Rattle.copy_meaning.specs.ReadRow.{wordsAt, halvesAt}
+use Rattle.copy_meaning.specs.Inner.{TwoWords, FourHalves}
 use Rattle.copy_meaning.proofs.Columns.{words-of, step-width}
 
 -- the words of a, b and s, of which s is to be a + b

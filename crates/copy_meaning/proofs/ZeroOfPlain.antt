@@ -15,7 +15,8 @@ use Rattle.copy_residues.specs.Residues.{halvesWord, step, incrLow, incrHigh, d
 use Rattle.copy_residues.specs.Residues.{oneHot, firstWrite, gatedBit, dstResNonWrite, singleLane, borrowImplies, borrowImpliesZero, endImplies}
 use Rattle.copy_residues.specs.Residues.{muComIs, muComWideIs, noWrap, gapNoWrap}
 use Rattle.copy_residues.proofs.CountBorrow.{borrow-is-carry}
-use Rattle.copy_meaning.specs.ReadRow.{TwoWords, FourHalves, wordsAt, halvesAt, widthAt, emptyAt}
+use Rattle.copy_meaning.specs.ReadRow.{wordsAt, halvesAt, widthAt}
+use Rattle.copy_meaning.specs.Inner.{TwoWords, FourHalves, emptyAt}
 use Rattle.copy_meaning.specs.Plain.{MovesAt, Plain}
 use Rattle.copy_meaning.specs.RowIff.{InRange}
 use Rattle.copy_meaning.proofs.Check.{range-elements}

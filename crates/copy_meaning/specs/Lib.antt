@@ -4,3 +4,4 @@ pub mod Plain
 pub mod RowIff
 pub mod Instances
 pub mod Theorems
+pub mod Inner

@@ -1,21 +1,10 @@
 -- The numbers and the operation record that are read off a copy row, and the call that the row after it must go on with. Assumes nothing.
-use Prim.Native.Nat.{ℕ, _+_, _-_, _*_, _^_, _<_}
+use Prim.Native.Nat.{ℕ, _+_, _-_, _*_}
 use mathlib.Core.List.{List, [], _∷_}
 use Rattle.lists.specs.Lists.{at, eightAt}
 use Rattle.words.specs.Words.{number}
 use Rattle.call.specs.Calls.{Call, Op}
 use Rattle.copy_row.specs.Columns.{TIMESTAMP, VALUE, SRC, SRC-INCR, DST, DST-INCR, COUNT, COUNT-DECR, FIRST, END, SINGLE, IS-SET, IS-WRITE}
-
--- two words, four halves from column c on
-pub record TwoWords (row : List ℕ) (c : ℕ) : Type 0 where
-  pub low : at row c < 2 ^ 32
-  pub high : at row (c + 1) < 2 ^ 32
-
-pub record FourHalves (row : List ℕ) (c : ℕ) : Type 0 where
-  pub first : at row c < 2 ^ 16
-  pub second : at row (c + 1) < 2 ^ 16
-  pub third : at row (c + 2) < 2 ^ 16
-  pub fourth : at row (c + 3) < 2 ^ 16
 
 -- the number in the two words from column c on
 abbrev pub wordsAt : List ℕ → ℕ → ℕ
@@ -28,10 +17,6 @@ halvesAt row c = number 16 (at row c ∷ at row (c + 1) ∷ at row (c + 2) ∷ a
 -- the row's width
 abbrev pub widthAt : List ℕ → ℕ
 widthAt row = 8 - 7 * at row SINGLE
-
--- 1 where nothing is left to move, else 0: what the borrow comes to
-abbrev pub emptyAt : List ℕ → ℕ
-emptyAt row = 1 - wordsAt row COUNT
 
 -- 0 Copy, 1 Set, 2 Write
 abbrev pub kindAt : List ℕ → ℕ

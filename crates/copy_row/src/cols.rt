@@ -11,17 +11,6 @@ pub const TIMESTAMP_1: usize = 1;
 
 pub const VALUE_0: usize = 2;
 
-pub const VALUE: [usize; 8] = [
-    VALUE_0,
-    VALUE_0 + 1,
-    VALUE_0 + 2,
-    VALUE_0 + 3,
-    VALUE_0 + 4,
-    VALUE_0 + 5,
-    VALUE_0 + 6,
-    VALUE_0 + 7,
-];
-
 pub const SRC_0: usize = 10;
 
 pub const SRC_1: usize = 11;

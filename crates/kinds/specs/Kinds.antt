@@ -3,9 +3,6 @@
 use Prim.Native.Nat.{ℕ}
 use mathlib.Core.Bool.{Bool}
 use mathlib.Core.List.{List}
-use Rattle.records.specs.Records.{recordCount, firstBad}
-use Rattle.records.specs.Table.{tableAnswer}
-use Rattle.records.specs.declared.TableAnswer.{TableAnswer}
 use Rattle.access.specs.Access.{ACCESS-WIDTH, goodAccess}
 use Rattle.access.specs.RegisterRecord.{goodRegister}
 use Rattle.access.specs.Tables.{REGISTER-WIDTH}
@@ -24,7 +21,3 @@ abbrev pub goodOf : RecordKind → List ℕ → Bool
 goodOf Operation r = goodOp r
 goodOf Access r = goodAccess r
 goodOf Register r = goodRegister r
-
--- what the maker of a table with rows of v numbers answers for a list of such records
-abbrev pub kindAnswer : RecordKind → ℕ → ℕ → List ℕ → ℕ → TableAnswer
-kindAnswer kind limit v l room = tableAnswer limit v (recordCount (widthOf kind) l) (firstBad (widthOf kind) (goodOf kind) l) room

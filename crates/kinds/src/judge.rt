@@ -3,7 +3,8 @@
 ghost use mathlib.Core.Path.{_≡_};
 ghost use Prim.Native.Nat.{_^_, _≤_};
 ghost use Rattle.records.specs.Records.{recordCount, firstBad};
-ghost use Rattle.kinds.specs.Kinds.{widthOf, goodOf, kindAnswer};
+ghost use Rattle.kinds.specs.Kinds.{widthOf, goodOf};
+ghost use Rattle.kinds.specs.Inner.{kindAnswer};
 use crate::RecordKind;
 use crate::good_record;
 use crate::width_of;

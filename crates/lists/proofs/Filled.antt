@@ -6,7 +6,8 @@ use mathlib.Core.List.{List}
 use Prim.Native.Nat.{ℕ, _+_, _*_, _≤_, _<_}
 use native.Mathlib.Omega.{arith}
 use lib.ListN.{length}
-use Rattle.lists.specs.Lists.{store, picked, counted, oneMore, placed}
+use Rattle.lists.specs.Lists.{store, picked, counted}
+use Rattle.lists.specs.Inner.{oneMore, placed}
 use Rattle.lists.proofs.Store.{store-none, length-store, store-append}
 use Rattle.lists.proofs.Flat.{picked-none, picked-yes, picked-no, picked-length, counted-none, counted-more, counted-yes, counted-mono, row-within}
 

@@ -1,7 +1,7 @@
 -- Lists that are read, filled and searched: the number in a place, what holds of all elements, their sum, what is stored where, what is
 -- joined, the lowest index that meets a test. Nothing here names a width, a table or a limit. Assumes nothing.
 use mathlib.Core.Path.{_≡_}
-use Prim.Native.Nat.{ℕ, zero, suc, _+_, _≤_, _<_, _*_}
+use Prim.Native.Nat.{ℕ, zero, suc, _+_, _≤_, _<_}
 use mathlib.Core.Bool.{Bool, true, false, cond, _&&_}
 use mathlib.Core.List.{List, [], _∷_, _++_}
 use lib.Dec.{eqb}
@@ -65,14 +65,6 @@ picked test g n = flat (λ k. cond (test k) (g k) []) n
 unfoldable pub counted : (ℕ → Bool) → ℕ → ℕ
 counted test zero = 0
 counted test (suc n) = cond (test n) (counted test n + 1) (counted test n)
-
--- one more of j, if it is wanted
-abbrev pub oneMore : Bool → ℕ → ℕ
-oneMore wanted j = cond wanted (j + 1) j
-
--- the buffer after a record of v numbers, if it is wanted, behind the j that it has
-abbrev pub placed : Bool → ℕ → ℕ → List ℕ → List ℕ → List ℕ
-placed wanted v j r buffer = cond wanted (store buffer (v * j) r) buffer
 
 -- What a loop looks for
 

@@ -2,7 +2,8 @@
 ghost use mathlib.Core.Path.{_≡_};
 ghost use Prim.Native.Nat.{_+_, _^_, _≤_, _<_};
 ghost use lib.ListN.{length, replicate};
-ghost use Rattle.lists.specs.Lists.{store, oneMore};
+ghost use Rattle.lists.specs.Lists.{store};
+ghost use Rattle.lists.specs.Inner.{oneMore};
 
 // Copies `src` into `dst`, which is as long.
 pub fn put(dst: &mut [u64], src: &[u64])

@@ -22,8 +22,9 @@ use Rattle.memw.specs.Rows.{regRowOf}
 use Rattle.memw.proofs.Wide.{memw-wide, aligned-wide, register-wide}
 use Rattle.access.specs.RegisterRecord.{registerLimits, goodRegister}
 use Rattle.access.specs.Tables.{recordWidth}
-use Rattle.kinds.specs.Kinds.{kindAnswer}
-use Rattle.memw.specs.Tables.{rowWidth, recordKind, goodRecord, recordRow, tablePadding, memwAnswer, memwAfter}
+use Rattle.kinds.specs.Inner.{kindAnswer}
+use Rattle.memw.specs.Tables.{rowWidth, goodRecord, recordRow, tablePadding, memwAnswer, memwAfter}
+use Rattle.memw.specs.Inner.{recordKind}
 use Rattle.memw.specs.Inner.{memwRowAt}
 use Rattle.access.specs.declared.AccessTable.{AccessTable}
 use Rattle.access.specs.declared.AccessTable.the-variants.{General, Aligned, Register}

@@ -13,8 +13,6 @@ use Rattle.access.specs.RegisterRecord.{goodRegister}
 use Rattle.access.specs.Tables.{recordWidth}
 use Rattle.access.specs.declared.AccessTable.{AccessTable}
 use Rattle.access.specs.declared.AccessTable.the-variants.{General, Aligned, Register}
-use Rattle.kinds.specs.declared.RecordKind.{RecordKind}
-use Rattle.kinds.specs.declared.RecordKind.the-variants as kind
 use Rattle.memw.specs.MemwColumns as general
 use Rattle.memw.specs.AlignedColumns as aligned
 use Rattle.memw.specs.RegisterColumns as register
@@ -25,12 +23,6 @@ abbrev pub rowWidth : AccessTable → ℕ
 rowWidth General = general.COLUMNS
 rowWidth Aligned = aligned.COLUMNS
 rowWidth Register = register.COLUMNS
-
--- the kind of a table's records
-abbrev pub recordKind : AccessTable → RecordKind
-recordKind General = kind.Access
-recordKind Aligned = kind.Access
-recordKind Register = kind.Register
 
 -- whether a record is whole and each field is among its values
 abbrev pub goodRecord : AccessTable → List ℕ → Bool

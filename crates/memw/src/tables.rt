@@ -3,7 +3,8 @@
 ghost use mathlib.Core.Path.{_≡_};
 ghost use lib.ListN.{length};
 ghost use Rattle.access.specs.Tables.{recordWidth};
-ghost use Rattle.memw.specs.Tables.{recordKind, rowWidth, recordRow};
+ghost use Rattle.memw.specs.Tables.{rowWidth, recordRow};
+ghost use Rattle.memw.specs.Inner.{recordKind};
 use crate::AccessTable;
 use crate::aligned_cols;
 use crate::cols;

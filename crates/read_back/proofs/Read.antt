@@ -17,7 +17,7 @@ use Rattle.chain.specs.declared.ChainAnswer.the-variants as chain
 use Rattle.chain.specs.declared.ChainRefusal.{ChainRefusal}
 use Rattle.chain.proofs.Passed.{Accepted, passing, passing-caps}
 use Rattle.read_back.specs.ReadBack.{readOps, readCalls, roomAnswer, readBackAnswer, opsAfter, callsAfter, readBackNumbers, ReadDone}
-use Rattle.read_back.specs.Steps.{rowsRead, numbersRead, holdsRead, RowsFit, CountsOf}
+use Rattle.read_back.specs.Inner.{rowsRead, numbersRead, holdsRead, RowsFit, CountsOf}
 use Rattle.read_back.specs.declared.ReadBackAnswer.{ReadBackAnswer}
 use Rattle.read_back.specs.declared.ReadBackAnswer.the-variants.{Read, Refused, BufferShort}
 use Rattle.read_back.specs.declared.rows.Counts.{Counts}

@@ -6,7 +6,8 @@ use mathlib.Core.List.{List}
 use Prim.Native.Nat.{ℕ, _+_, _*_, _/_, _≤_, _<_}
 use native.Mathlib.Omega.{arith}
 use lib.ListN.{length}
-use Rattle.lists.specs.Lists.{store, oneMore, placed, picked, counted}
+use Rattle.lists.specs.Lists.{store, picked, counted}
+use Rattle.lists.specs.Inner.{oneMore, placed}
 use Rattle.lists.proofs.All.{all-of}
 use Rattle.lists.proofs.Filled.{Filled, count-next, filled-next, filled-room}
 use Rattle.lists.proofs.Flat.{counted-le}
@@ -15,8 +16,8 @@ use Rattle.lists.proofs.Listed.{picked-kept, kept-count}
 use Rattle.records.specs.Records.{recordCount, recordAt, recordsIn}
 use Rattle.records.proofs.RecordList.{each-record}
 use Rattle.copy_row.specs.Columns.{COLUMNS}
-use Rattle.row_test.specs.Caps.{Caps}
-use Rattle.read_back.specs.Steps.{isRead, numbersOf, widthOf, rowsRead, numbersRead, RowsFit}
+use Rattle.row_test.specs.Inner.{Caps}
+use Rattle.read_back.specs.Inner.{isRead, numbersOf, widthOf, rowsRead, numbersRead, RowsFit}
 
 -- whether row k is read, and what of it
 abbrev pub readAt : Bool → List ℕ → ℕ → Bool

@@ -6,7 +6,8 @@ use mathlib.Core.List.{List}
 use Prim.Native.Nat.{ℕ, _+_, _*_, _^_, _≤_, _<_}
 use native.Mathlib.Omega.{arith}
 use lib.ListN.{length}
-use Rattle.lists.specs.Lists.{store, oneMore, placed}
+use Rattle.lists.specs.Lists.{store}
+use Rattle.lists.specs.Inner.{oneMore, placed}
 use Rattle.lists.proofs.Flat.{picked-length, counted-none, counted-le}
 use Rattle.lists.proofs.Filled as loop
 use Rattle.records.specs.Records.{recordCount, recordAt}

@@ -4,7 +4,7 @@ use Prim.Native.Nat.{ℕ, _+_, _*_, _^_, _≤_, _<_}
 use mathlib.Core.Bool.{Bool, true, cond}
 use mathlib.Core.List.{List}
 use lib.Dec.{ltb}
-use Rattle.lists.specs.Lists.{placed}
+use Rattle.lists.specs.Inner.{placed}
 use Rattle.records.specs.Records.{recordCount, recordAt}
 use Rattle.access.specs.Access.{ACCESS-WIDTH}
 use Rattle.access.specs.Tables.{recordWidth, sameTable}

@@ -19,7 +19,7 @@ use Rattle.copy_meaning.specs.RowIff.{InRange}
 use Rattle.copy_meaning.proofs.Columns.{columns-of}
 use Rattle.copy_meaning.proofs.PlainOfRow.{tail-at, below-of-row}
 use Rattle.copy_meaning.proofs.RowIff.{row-iff}
-use Rattle.row_test.specs.Caps.{caps, Caps}
+use Rattle.row_test.specs.Inner.{caps, Caps}
 use Rattle.row_test.proofs.Booleans.{eq-iff, _and_, or-iff}
 
 -- a cap is at most the column's limit

@@ -13,6 +13,7 @@ ghost use Rattle.text.specs.Numbers.{numberOf};
 ghost use Rattle.text.specs.Inner.{digitOf};
 ghost use Rattle.text.specs.Lines.{wordOf, gapOf, callLine};
 use call::Functionality;
+use words::wide;
 
 pub const TAB: u8 = 9;
 
@@ -93,13 +94,6 @@ pub fn is_same(a: &[u8], b: &[u8]) -> bool
         i += 1;
     }
     true
-}
-
-// A byte as a number of 64 bits.
-fn wide(b: u8) -> u64
-    ensures { λ r. ⌜ (r ≡ b) × (r < 256) ⌝ }
-{
-    b as u64
 }
 
 // The number with one digit more, if `b` is a digit and the number stays below 2^64. No product or sum here can overflow: the value

@@ -29,7 +29,7 @@ use Rattle.chain.specs.declared.ChainAnswer.the-variants.{Passed, Refused}
 use Rattle.chain.proofs.Passed.{refusal-numbered}
 use Rattle.read_back.specs.ReadBack.{readOps, readCalls, roomAnswer, onChain, readBackAnswer, opsAfter, callsAfter, readBackNumbers, openingRows, liveRows}
 use Rattle.read_back.specs.declared.ReadBackAnswer.the-variants.{Read, BufferShort}
-use Rattle.read_back.specs.Steps.{rowsRead, numbersRead}
+use Rattle.read_back.specs.Inner.{rowsRead, numbersRead}
 use Rattle.read_back.proofs.Walk.{numbers-length}
 use Rattle.whole_calls.specs.Demand.{Passes, WholeCalls, ReadsBack}
 use Rattle.whole_calls.proofs.Whole.{steps, Still, all-still, calls-rows, calls-pass, live-rows}

@@ -17,8 +17,7 @@ use Rattle.words.specs.Words.{bit}
 use Rattle.call.specs.Calls.{Call, Op}
 use Rattle.copy_row.specs.Columns.{END, MU, COLUMNS}
 use Rattle.copy_row.specs.Rows.{wrapped, rowOf, tableRow}
-use Rattle.copy_residues.specs.RowCheck.{rowFault}
-use Rattle.copy_residues.specs.declared.RowFault.the-variants.{Fine}
+use Rattle.copy_residues.specs.RowCheck.{rowFault, Fine}
 use Rattle.copy_meaning.specs.Steps.{empty, ends, more, LiveStep, RowStep}
 use Rattle.copy_meaning.specs.ReadRow.{opAt, nextAt}
 use Rattle.copy_meaning.proofs.RowIff.{row-iff, live-passes}

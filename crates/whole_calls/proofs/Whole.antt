@@ -13,8 +13,7 @@ use Rattle.call.specs.Cuts.{CutCall, opsOf, Fits}
 use Rattle.copy_row.specs.Columns.{MU, COLUMNS}
 use Rattle.copy_row.specs.Rows.{tableRow}
 use Rattle.copy_row.proofs.Rows.{row-wide}
-use Rattle.copy_residues.specs.RowCheck.{rowFault}
-use Rattle.copy_residues.specs.declared.RowFault.the-variants.{Fine}
+use Rattle.copy_residues.specs.RowCheck.{rowFault, Fine}
 use Rattle.copy_meaning.specs.Steps.{LiveStep}
 use Rattle.copy_meaning.specs.RowIff.{CallRow}
 use Rattle.copy_meaning.proofs.RowIff.{live-passes}

@@ -10,12 +10,7 @@ use crate::cells::read_stamps;
 use crate::cells::write_bytes;
 use crate::cells::write_stamps;
 use lists::slices::put;
-
-fn wide(x: u8) -> u64
-    ensures { λ r. ⌜ r ≡ x ⌝ }
-{
-    x as u64
-}
+use words::wide;
 
 // Eight bytes as numbers of a record.
 pub fn byte_words(value: [u8; 8]) -> [u64; 8]

@@ -22,15 +22,12 @@ Below w ds = All (λ (d : ℕ). d < 2 ^ w) ds
 abbrev pub Bytes : List ℕ → Type 0
 Bytes l = Below 8 l
 
--- a 64-bit number as two words, four halves, eight bytes
+-- a 64-bit number as two words, four halves
 abbrev pub words : ℕ → List ℕ
 words x = digits 32 2 x
 
 abbrev pub halves : ℕ → List ℕ
 halves x = digits 16 4 x
-
-abbrev pub bytes : ℕ → List ℕ
-bytes x = digits 8 8 x
 
 -- the sum and the difference modulo 2^64, as the Rust's wrapping calls; the difference for b up to 2^64
 abbrev pub wrapAdd : ℕ → ℕ → ℕ

@@ -1,8 +1,8 @@
-// A 64-bit number as words, halves and bytes, lowest first, and sums taken modulo 2^64. Every function has a result for every input.
+// A 64-bit number as words and halves, lowest first, a byte as a number, and sums taken modulo 2^64. Every function has a result for every input.
 // Assumes nothing.
 ghost use mathlib.Core.Path.{_≡_};
-ghost use Prim.Native.Nat.{_/_, _%_, _^_};
-ghost use Rattle.words.specs.Words.{words, halves, bytes, bit, wrapAdd, wrapSub};
+ghost use Prim.Native.Nat.{_/_, _%_, _^_, _<_};
+ghost use Rattle.words.specs.Words.{words, halves, bit, wrapAdd, wrapSub};
 
 // The bits below 2^32.
 pub fn low_word(x: u64) -> u64
@@ -30,19 +30,11 @@ pub fn halves(x: u64) -> [u64; 4]
     [x % 65536, (x >> 16) % 65536, (x >> 32) % 65536, x >> 48]
 }
 
-pub fn bytes(x: u64) -> [u64; 8]
-    ensures { λ r. ⌜ r ≡ bytes x ⌝ }
+// A byte as a number of 64 bits.
+pub fn wide(byte: u8) -> u64
+    ensures { λ r. ⌜ (r ≡ byte) × (r < 256) ⌝ }
 {
-    [
-        x % 256,
-        (x >> 8) % 256,
-        (x >> 16) % 256,
-        (x >> 24) % 256,
-        (x >> 32) % 256,
-        (x >> 40) % 256,
-        (x >> 48) % 256,
-        x >> 56,
-    ]
+    byte as u64
 }
 
 // b as a number.

@@ -8,7 +8,7 @@ use borrow.Author.Tests.{not-true, not-false}
 use denote.Ref.{now}
 use Rattle.chain.specs.Chain.{chainNumbers}
 use Rattle.chain.specs.declared.ChainAnswer.{ChainAnswer}
-use Rattle.read_back.specs.Steps.{RowsFit}
+use Rattle.read_back.specs.Inner.{RowsFit}
 use Rattle.read_back.proofs.Read.{passed-fit, refused, short, read}
 use Rattle.read_back.proofs.read_back.Statement.{statement}
 use Rattle.read_back.proofs.read_back.Tie as tie

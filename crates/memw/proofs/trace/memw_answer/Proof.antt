@@ -2,7 +2,7 @@
 use mathlib.Core.Path.{_∙_}
 use borrow.Author.Needs.{needs}
 use denote.Ref.{now}
-use Rattle.kinds.specs.Kinds.{kindAnswer}
+use Rattle.kinds.specs.Inner.{kindAnswer}
 use Rattle.memw.proofs.AccessTables.{row-width-bound, answer-of-kind}
 use Rattle.memw.proofs.trace.memw_answer.Statement.{statement}
 use Rattle.memw.proofs.trace.memw_answer.Tie as tie

@@ -7,7 +7,8 @@ use native.Mathlib.Omega.{arith}
 use borrow.Author.Needs.{needs}
 use denote.Ref.{now}
 use lib.ListN.{length}
-use Rattle.lists.specs.Lists.{counted, oneMore}
+use Rattle.lists.specs.Lists.{counted}
+use Rattle.lists.specs.Inner.{oneMore}
 use Rattle.lists.proofs.Flat.{counted-none, counted-le}
 use Rattle.copy_row.specs.Columns.{COLUMNS}
 use Rattle.chain.proofs.Rows.{row-length}

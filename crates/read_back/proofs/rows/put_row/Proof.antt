@@ -9,7 +9,7 @@ use denote.Ref.{now}
 use lib.ListN.{length}
 use Rattle.call.specs.Ops.{OP-WIDTH}
 use Rattle.call.specs.Flat.{CALL-WIDTH}
-use Rattle.read_back.specs.Steps.{isRead, widthOf}
+use Rattle.read_back.specs.Inner.{isRead, widthOf}
 use Rattle.read_back.proofs.Walk.{passed-over, room-for, written-row}
 use Rattle.read_back.proofs.rows.put_row.Statement.{statement}
 use Rattle.read_back.proofs.rows.put_row.Tie as tie

@@ -10,7 +10,7 @@ use lib.ListN.{length}
 use Rattle.lists.proofs.Filled.{Filled, filled-start}
 use Rattle.copy_row.specs.Columns.{COLUMNS}
 use Rattle.chain.proofs.Rows.{row-length}
-use Rattle.row_test.specs.Caps.{Caps}
+use Rattle.row_test.specs.Inner.{Caps}
 use Rattle.read_back.proofs.Walk.{readAt, partAt, row-caps, row-room, row-written, all-counted, all-written}
 use Rattle.read_back.proofs.Read.{Holds, holds-of}
 use Rattle.read_back.proofs.rows.write.Statement.{statement}

@@ -13,7 +13,7 @@ use lib.ListN.{getD}
 use Rattle.lists.specs.Lists.{at}
 use Rattle.copy_row.specs.Columns.{COLUMNS}
 use Rattle.copy_residues.specs.Range.{columnLimits}
-use Rattle.row_test.specs.Caps.{caps, Caps}
+use Rattle.row_test.specs.Inner.{caps, Caps}
 use Rattle.row_test.proofs.Booleans.{and-iff}
 use Rattle.row_test.proofs.row.fits.Statement.{statement}
 use Rattle.row_test.proofs.row.fits.Tie as tie

@@ -28,7 +28,7 @@ loop-again c =
     let n : length v ≡ 8 = search needs in (
       search needs,
       simp length-set (search needs),
-      ap (λ (x : ℕ). store (set (l .out) (l .i) x) (l .i + 1) (drop (l .i + 1) v)) ((c .wide) .ensures)
+      ap (λ (x : ℕ). store (set (l .out) (l .i) x) (l .i + 1) (drop (l .i + 1) v)) ((c .wide) .ensures .0)
           ∙ store-turn (l .out) v (l .i) (l .i) (omega arith)
           ∙ l .inv .2,
     )

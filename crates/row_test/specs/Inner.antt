@@ -1,4 +1,5 @@
--- What the columns of a row that passes lie below: the first thing that is tested of it. Assumes nothing.
+-- What the columns of a row that passes lie below: the first thing that is tested of it. Cited by the contracts of
+-- inner functions alone. Assumes nothing.
 use mathlib.Core.List.{List, _++_}
 use Prim.Native.Nat.{ℕ, _<_}
 use lib.ListN.{getD, take, replicate}

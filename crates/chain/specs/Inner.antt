@@ -1,11 +1,12 @@
--- The row before as the code holds it: a slice of its own, with no number in it where there is no row before. Assumes nothing.
+-- The row before as the code holds it: a slice of its own, with no number in it where there is no row before. Cited by
+-- the contracts of inner functions alone. Assumes nothing.
 use mathlib.Core.Path.{_≡_}
 use mathlib.Core.Bool.{Bool, true, false}
 use mathlib.Core.List.{List, [], _∷_}
 use Prim.Native.Nat.{ℕ, _<_}
 use lib.ListN.{length}
 use Rattle.copy_row.specs.Columns.{COLUMNS}
-use Rattle.row_test.specs.Caps.{Caps}
+use Rattle.row_test.specs.Inner.{Caps}
 use Rattle.chain.specs.Link.{Before, closed, unended, dead, beforeOf}
 
 -- what it is to the row after it

@@ -1,4 +1,5 @@
--- Reading operation records and reading calls: what each takes of a row. The contracts of internal functions cite these. Assumes nothing.
+-- Reading operation records and reading calls: what each takes of a row. Cited by the contracts of inner functions alone.
+-- Assumes nothing.
 use mathlib.Core.Path.{_≡_}
 use Prim.Native.Nat.{ℕ, _*_, _%_}
 use mathlib.Core.Bool.{Bool, true, false, cond, _&&_}
@@ -10,7 +11,7 @@ use Rattle.call.specs.Ops.{opRecord, OP-WIDTH}
 use Rattle.call.specs.Flat.{callNumbers, CALL-WIDTH}
 use Rattle.copy_row.specs.Columns.{COLUMNS}
 use Rattle.copy_meaning.specs.ReadRow.{callAt, opAt}
-use Rattle.row_test.specs.Caps.{Caps}
+use Rattle.row_test.specs.Inner.{Caps}
 use Rattle.chain.specs.Chain.{tableRows}
 use Rattle.read_back.specs.ReadBack.{isLive, isOpening}
 use Rattle.read_back.specs.declared.rows.Counts.{Counts}
