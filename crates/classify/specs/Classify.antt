@@ -1,13 +1,14 @@
 -- Which of the three access tables takes an access record, `classify_memw`. Document 01: "register if is_register, width 2, first two
 -- old stamps equal, high words equal, low difference 1 to 65,536; else aligned if the low address word is a multiple of width and the
 -- first width old stamps agree; else general." Assumes nothing.
-use Prim.Native.Nat.{ℕ, _+_, _-_, _/_, _%_, _^_}
+use Prim.Native.Nat.{ℕ, _+_, _-_, _%_}
 use mathlib.Core.Bool.{Bool, cond, not, _&&_}
 use mathlib.Core.List.{List}
 use lib.Dec.{eqb, leb}
 use Rattle.answer.specs.Numbers.{accepted, refused}
 use Rattle.answer.specs.declared.Answer.{Answer}
 use Rattle.lists.specs.Lists.{first, at}
+use Rattle.words.specs.Words.{lowWord, highWord}
 use Rattle.access.specs.Access.{IS-REGISTER, BASE-ADDRESS, TIMESTAMP, WIDTH, OLD-TIMESTAMP, goodAccess}
 use Rattle.access.specs.declared.AccessTable.{AccessTable}
 use Rattle.access.specs.declared.AccessTable.the-variants as table
@@ -15,13 +16,6 @@ use Rattle.classify.specs.declared.ClassifyAnswer.{ClassifyAnswer}
 use Rattle.classify.specs.declared.ClassifyAnswer.the-variants.{Route, BadRecord}
 use Rattle.classify.specs.declared.MemwRoute.{MemwRoute}
 use Rattle.classify.specs.declared.MemwRoute.the-variants.{Register, Aligned, General}
-
--- the words of a 64-bit number
-abbrev pub lowWord : ℕ → ℕ
-lowWord x = x % 2 ^ 32
-
-abbrev pub highWord : ℕ → ℕ
-highWord x = x / 2 ^ 32
 
 -- "high words equal, low difference 1 to 65,536", as `reg_ts_delta_in_range`
 unfoldable pub deltaInRange : ℕ → ℕ → Bool

@@ -9,7 +9,7 @@ use Rattle.lists.specs.Lists.{at}
 use Rattle.access.specs.Access.{BASE-ADDRESS, VALUE, TIMESTAMP, IS-READ, OLD, OLD-TIMESTAMP}
 use Rattle.access.specs.declared.AccessTable.{AccessTable}
 use Rattle.access.specs.declared.AccessTable.the-variants.{General, Aligned, Register}
-use Rattle.classify.specs.Classify.{lowWord}
+use Rattle.words.specs.Words.{lowWord}
 
 -- the register table's record of an access
 abbrev pub registerRecord : List ℕ → List ℕ

@@ -11,13 +11,13 @@ use Rattle.kinds.specs.declared.RecordKind.{RecordKind}
 use Rattle.kinds.specs.declared.RecordKind.the-variants.{Operation, Access, Register}
 
 -- numbers in a record
-abbrev pub widthOf : RecordKind → ℕ
-widthOf Operation = OP-WIDTH
-widthOf Access = ACCESS-WIDTH
-widthOf Register = REGISTER-WIDTH
+abbrev pub kindWidth : RecordKind → ℕ
+kindWidth Operation = OP-WIDTH
+kindWidth Access = ACCESS-WIDTH
+kindWidth Register = REGISTER-WIDTH
 
 -- whether a record is whole and each field is among its values
-abbrev pub goodOf : RecordKind → List ℕ → Bool
-goodOf Operation r = goodOp r
-goodOf Access r = goodAccess r
-goodOf Register r = goodRegister r
+abbrev pub goodOfKind : RecordKind → List ℕ → Bool
+goodOfKind Operation r = goodOp r
+goodOfKind Access r = goodAccess r
+goodOfKind Register r = goodRegister r

@@ -3,7 +3,7 @@
 ghost use mathlib.Core.Path.{_≡_};
 ghost use Prim.Native.Nat.{_^_, _≤_};
 ghost use Rattle.records.specs.Records.{recordCount, firstBad};
-ghost use Rattle.kinds.specs.Kinds.{widthOf, goodOf};
+ghost use Rattle.kinds.specs.Kinds.{kindWidth, goodOfKind};
 ghost use Rattle.kinds.specs.Inner.{kindAnswer};
 use crate::RecordKind;
 use crate::good_record;
@@ -15,8 +15,8 @@ use records::tables::table_answer;
 
 // The lowest of the n records of w numbers that is not good, or n.
 fn first_bad(kind: RecordKind, list: &[u64], w: usize, n: usize) -> usize
-    requires { ⌜ (w ≡ widthOf kind) × (n ≡ recordCount (widthOf kind) (now list)) ⌝ }
-    ensures { λ r. ⌜ r ≡ firstBad (widthOf kind) (goodOf kind) (now (list .entry)) ⌝ }
+    requires { ⌜ (w ≡ kindWidth kind) × (n ≡ recordCount (kindWidth kind) (now list)) ⌝ }
+    ensures { λ r. ⌜ r ≡ firstBad (kindWidth kind) (goodOfKind kind) (now (list .entry)) ⌝ }
 {
     let mut k = 0;
     while k < n {

@@ -2,7 +2,7 @@
 pub mod judge;
 
 ghost use mathlib.Core.Path.{_≡_};
-ghost use Rattle.kinds.specs.Kinds.{widthOf, goodOf};
+ghost use Rattle.kinds.specs.Kinds.{kindWidth, goodOfKind};
 use access::ACCESS_WIDTH;
 use access::REGISTER_WIDTH;
 use access::good_access;
@@ -19,7 +19,7 @@ pub enum RecordKind {
 
 // Numbers in a record.
 pub fn width_of(kind: RecordKind) -> usize
-    ensures { λ r. ⌜ r ≡ widthOf kind ⌝ }
+    ensures { λ r. ⌜ r ≡ kindWidth kind ⌝ }
 {
     match kind {
         RecordKind::Operation => OP_WIDTH,
@@ -30,7 +30,7 @@ pub fn width_of(kind: RecordKind) -> usize
 
 // Whether a record is whole and each field is among its values.
 pub fn good_record(kind: RecordKind, op: &[u64]) -> bool
-    ensures { λ r. ⌜ r ≡ goodOf kind (now (op .entry)) ⌝ }
+    ensures { λ r. ⌜ r ≡ goodOfKind kind (now (op .entry)) ⌝ }
 {
     match kind {
         RecordKind::Operation => good_op(op),

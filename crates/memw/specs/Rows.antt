@@ -1,10 +1,10 @@
 -- The rows of the three access tables. Document 01: "General table and residues (49 columns, 15): memw.rs; CARRY[i] is 1 exactly if low
 -- address + i + 1 is at least 2^32", then the columns of the aligned and the register table. Assumes nothing.
-use Prim.Native.Nat.{ℕ, _+_, _%_, _^_}
+use Prim.Native.Nat.{ℕ, _+_, _^_}
 use mathlib.Core.List.{List, [], _∷_, _++_}
 use lib.Dec.{eqb, leb}
 use Rattle.lists.specs.Lists.{at, eightAt}
-use Rattle.words.specs.Words.{words, halves, bit}
+use Rattle.words.specs.Words.{words, halves, lowWord, bit}
 use Rattle.access.specs.Access.{Access}
 use Rattle.memw.specs.declared.RegRow.{RegRow}
 
@@ -53,7 +53,7 @@ memwRow a =
     ++ words (a .timestamp)
     ++ writeFlags (a .width)
     ++ eightAt (a .old) 0
-    ++ carries (a .address % 2 ^ 32)
+    ++ carries (lowWord (a .address))
     ++ stampWords (a .oldTimestamps)
     ++ multiplicities (a .isRead)
 

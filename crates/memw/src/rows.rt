@@ -1,8 +1,8 @@
 // Internal to the workspace, not open to callers: the rows of the three access tables. Assumes nothing but what each `requires` says.
 ghost use mathlib.Core.Path.{_≡_};
-ghost use Prim.Native.Nat.{_%_, _^_, _≤_, _<_};
+ghost use Prim.Native.Nat.{_^_, _≤_, _<_};
 ghost use lib.ListN.{length};
-ghost use Rattle.words.specs.Words.{bit};
+ghost use Rattle.words.specs.Words.{lowWord, bit};
 ghost use Rattle.access.specs.Access.{ACCESS-WIDTH, accessOf};
 ghost use Rattle.access.specs.Tables.{REGISTER-WIDTH};
 ghost use Rattle.memw.specs.Rows.{writeFlags, carry, carries, stampWords, addressParts, memwRow, alignedRow, registerRow, regRowOf};
@@ -81,7 +81,7 @@ fn carry(low: u64, i: u64) -> u64
 
 // CARRY[0] to CARRY[6] of an address.
 fn carries(address: u64) -> [u64; 7]
-    ensures { λ r. ⌜ r ≡ carries (address % 2 ^ 32) ⌝ }
+    ensures { λ r. ⌜ r ≡ carries (lowWord address) ⌝ }
 {
     let low = low_word(address);
     [

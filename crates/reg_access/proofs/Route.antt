@@ -9,8 +9,9 @@ use borrow.Author.Tests.{eq-eqb}
 use lib.Dec.{eqb}
 use lib.ListN.{replicate}
 use Rattle.lists.specs.Lists.{first, at}
+use Rattle.words.specs.Words.{lowWord}
 use Rattle.access.specs.Access.{BASE-ADDRESS, ACCESS-WIDTH}
-use Rattle.classify.specs.Classify.{lowWord, deltaInRange, isRegisterOp, stampsAgree, isAlignedOp, classify, tableOf}
+use Rattle.classify.specs.Classify.{deltaInRange, isRegisterOp, stampsAgree, isAlignedOp, classify, tableOf}
 use Rattle.classify.specs.TableRecord.{addressFits}
 use Rattle.classify.specs.declared.MemwRoute.{MemwRoute}
 use Rattle.classify.specs.declared.MemwRoute.the-variants.{Register, Aligned, General}

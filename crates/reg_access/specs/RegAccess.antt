@@ -10,13 +10,13 @@ use lib.ListN.{replicate}
 use Rattle.answer.specs.Numbers.{accepted, refused}
 use Rattle.answer.specs.declared.Answer.{Answer}
 use Rattle.lists.specs.Lists.{at}
-use Rattle.words.specs.Words.{bit}
+use Rattle.words.specs.Words.{lowWord, bit}
 use Rattle.access.specs.Access.{BASE-ADDRESS, ACCESS-WIDTH, accessRecord}
 use Rattle.access.specs.RegisterAccess.{registerAccess}
 use Rattle.access.specs.Tables.{REGISTER-WIDTH}
 use Rattle.access.specs.declared.AccessTable.{AccessTable}
 use Rattle.access.specs.declared.AccessTable.the-variants as table
-use Rattle.classify.specs.Classify.{lowWord, deltaInRange, classify, tableFor, routeNumber}
+use Rattle.classify.specs.Classify.{deltaInRange, classify, tableFor, routeNumber}
 use Rattle.classify.specs.TableRecord.{registerRecord, addressFits}
 use Rattle.classify.specs.declared.MemwRoute.{MemwRoute}
 use Rattle.classify.specs.declared.MemwRoute.the-variants.{Register, Aligned, General}

@@ -9,7 +9,7 @@ use lib.ListN.{length, getD, replicate}
 use lib.Arith.{digits-lt}
 use lib.Pow.{pow-pos, pow-add}
 use Rattle.lists.proofs.All.{all-replicate, each-of, of-each}
-use Rattle.words.specs.Words.{digits, number, Below, halves}
+use Rattle.words.specs.Words.{digits, number, Below, halves, highWord}
 use Rattle.words.proofs.Limbs.{mod-mul, low-limb, high-limb}
 
 pub digits-length : (w n x : ℕ) → length (digits w n x) ≡ n
@@ -56,7 +56,7 @@ number-lt w (d ∷ ds) b =
     let e : d + 2 ^ w * number w ds ≡ number w ds * 2 ^ w + d = add-comm d (2 ^ w * number w ds) ∙ ap (λ t. t + d) (mul-comm (2 ^ w) (number w ds)) in
     rw (mul-suc, pow-add, e) (digits-lt (number-lt w ds (b .1)) (b .0))
 
--- Halves of a 64-bit number
+-- Halves and words of a 64-bit number
 
 module _ (x : ℕ) (fits : x < 2 ^ 64) where
   -- the digits that shifts take
@@ -64,3 +64,6 @@ module _ (x : ℕ) (fits : x < 2 ^ 64) where
   halves-shifted =
       let top : x / 2 ^ 48 ≡ x / 2 ^ 48 % 2 ^ 16 = omega arith in
       simp div-div-eq-div-mul (λ i. x % 2 ^ 16 ∷ x / 2 ^ 16 % 2 ^ 16 ∷ x / 2 ^ 32 % 2 ^ 16 ∷ top i ∷ [])
+
+  pub high-shifted : x / 2 ^ 32 ≡ highWord x
+  high-shifted = omega arith

@@ -3,7 +3,7 @@
 use mathlib.Core.List.{List, [], _∷_}
 use Prim.Native.Nat.{ℕ, zero, suc, _+_, _-_, _*_, _/_, _%_, _^_, _<_}
 use mathlib.Core.Bool.{Bool, cond}
-use Rattle.lists.specs.Lists.{All}
+use Rattle.lists.specs.Lists.{at, All}
 
 -- the lowest n digits of x, of w bits each, lowest first
 abbrev pub digits : ℕ → ℕ → ℕ → List ℕ
@@ -28,6 +28,13 @@ words x = digits 32 2 x
 
 abbrev pub halves : ℕ → List ℕ
 halves x = digits 16 4 x
+
+-- and one of the words by itself
+abbrev pub lowWord : ℕ → ℕ
+lowWord x = at (words x) 0
+
+abbrev pub highWord : ℕ → ℕ
+highWord x = at (words x) 1
 
 -- the sum and the difference modulo 2^64, as the Rust's wrapping calls; the difference for b up to 2^64
 abbrev pub wrapAdd : ℕ → ℕ → ℕ

@@ -1,19 +1,19 @@
 // A 64-bit number as words and halves, lowest first, a byte as a number, and sums taken modulo 2^64. Every function has a result for every input.
 // Assumes nothing.
 ghost use mathlib.Core.Path.{_≡_};
-ghost use Prim.Native.Nat.{_/_, _%_, _^_, _<_};
-ghost use Rattle.words.specs.Words.{words, halves, bit, wrapAdd, wrapSub};
+ghost use Prim.Native.Nat.{_<_};
+ghost use Rattle.words.specs.Words.{words, halves, lowWord, highWord, bit, wrapAdd, wrapSub};
 
 // The bits below 2^32.
 pub fn low_word(x: u64) -> u64
-    ensures { λ r. ⌜ r ≡ x % 2 ^ 32 ⌝ }
+    ensures { λ r. ⌜ r ≡ lowWord x ⌝ }
 {
     x % 4294967296
 }
 
 // The bits from 2^32 on.
 pub fn high_word(x: u64) -> u64
-    ensures { λ r. ⌜ r ≡ x / 2 ^ 32 % 2 ^ 32 ⌝ }
+    ensures { λ r. ⌜ r ≡ highWord x ⌝ }
 {
     x >> 32
 }

@@ -8,7 +8,7 @@ use denote.Ref.{now}
 use Rattle.lists.specs.Lists.{first}
 use Rattle.records.specs.Records.{recordCount, recordAt, firstBad}
 use Rattle.records.proofs.Records.{badAt, bad-start, bad-pass, bad-stop, bad-end, record-within}
-use Rattle.kinds.specs.Kinds.{widthOf, goodOf}
+use Rattle.kinds.specs.Kinds.{kindWidth, goodOfKind}
 use Rattle.kinds.proofs.Widths.{width-bounds}
 use Rattle.kinds.proofs.judge.first_bad.Statement.{statement}
 use Rattle.kinds.proofs.judge.first_bad.Tie as tie
@@ -16,8 +16,8 @@ use Rattle.kinds.proofs.judge.first_bad.Tie as tie
 abbrev Inv-loop : tie.InvT-loop
 Inv-loop kind list w n k₀ k =
     (k ≤ n)
-    × (firstBad (widthOf kind) (goodOf kind) list
-    ≡ first (badAt (widthOf kind) (goodOf kind) list) k (recordCount (widthOf kind) list - k))
+    × (firstBad (kindWidth kind) (goodOfKind kind) list
+    ≡ first (badAt (kindWidth kind) (goodOfKind kind) list) k (recordCount (kindWidth kind) list - k))
 
 abbrev μ-loop : tie.MeasureT-loop
 μ-loop kind list w n k₀ k = n - k
@@ -26,7 +26,7 @@ record-at-requires : tie.Need-record-at-requires Inv-loop μ-loop
 record-at-requires c κs =
     let entry = c .before .before .before in
     let kind = entry .args .kind in
-    let begins = record-within (widthOf kind) (now (entry .args .list)) (c .before .loop .k) (width-bounds kind .0) (omega arith) in
+    let begins = record-within (kindWidth kind) (now (entry .args .list)) (c .before .loop .k) (width-bounds kind .0) (omega arith) in
     rw (entry .pre .0) (omega (arith, begins))
 
 -- places: the loop, seen from the verdict on record k; the entry, seen from the loop
@@ -39,12 +39,12 @@ entry-of c = c .before .before
 -- what the record at `k` was found to be
 judged : (c : tie.After-good-record Inv-loop μ-loop)
     → let a = entry-of (loop-of c) .args in
-    c .good-record .result ≡ goodOf (a .kind) (recordAt (widthOf (a .kind)) (now (a .list)) (loop-of c .loop .k))
+    c .good-record .result ≡ goodOfKind (a .kind) (recordAt (kindWidth (a .kind)) (now (a .list)) (loop-of c .loop .k))
 judged c =
     let entry = entry-of (loop-of c) in
     let list = now (entry .args .list) in
     c .good-record .ensures
-    ∙ ap (goodOf (entry .args .kind)) (c .before .record-at .ensures ∙ ap (λ w. recordAt w list (loop-of c .loop .k)) (entry .pre .0))
+    ∙ ap (goodOfKind (entry .args .kind)) (c .before .record-at .ensures ∙ ap (λ w. recordAt w list (loop-of c .loop .k)) (entry .pre .0))
 
 returns : tie.Need-returns Inv-loop μ-loop
 returns c =
@@ -52,7 +52,7 @@ returns c =
     let at = at-loop-test .before in
     let args = at .before .before .args in
     let bad = sym (judged (c .before)) ∙ not-true _ (c .if1 .taken) in
-    sym (at .loop .inv .1 ∙ bad-stop (widthOf (args .kind)) (goodOf (args .kind)) (now (args .list)) (at .loop .k) (omega arith) bad)
+    sym (at .loop .inv .1 ∙ bad-stop (kindWidth (args .kind)) (goodOfKind (args .kind)) (now (args .list)) (at .loop .k) (omega arith) bad)
 
 loop-again : tie.Need-loop-again Inv-loop μ-loop
 loop-again c =
@@ -60,13 +60,13 @@ loop-again c =
     let at = at-loop-test .before in
     let args = at .before .before .args in
     let good = sym (judged (c .before)) ∙ not-false _ (c .if1 .left) in
-    (omega arith, at .loop .inv .1 ∙ bad-pass (widthOf (args .kind)) (goodOf (args .kind)) (now (args .list)) (at .loop .k) (omega arith) good)
+    (omega arith, at .loop .inv .1 ∙ bad-pass (kindWidth (args .kind)) (goodOfKind (args .kind)) (now (args .list)) (at .loop .k) (omega arith) good)
 
 returns-2 : tie.Need-returns-2 Inv-loop μ-loop
 returns-2 c =
     let at = c .before in
     let args = at .before .before .args in
-    sym (at .loop .inv .1 ∙ bad-end (widthOf (args .kind)) (goodOf (args .kind)) (now (args .list)) (at .loop .k) (omega arith))
+    sym (at .loop .inv .1 ∙ bad-end (kindWidth (args .kind)) (goodOfKind (args .kind)) (now (args .list)) (at .loop .k) (omega arith))
 
 pub first-bad-spec : {M : Type 1} → statement M
 first-bad-spec =

@@ -8,7 +8,7 @@ use denote.Ref.{now}
 use Rattle.records.specs.Records.{recordCount}
 use Rattle.records.specs.Table.{tableAnswer}
 use Rattle.records.proofs.Table.{answer-over}
-use Rattle.kinds.specs.Kinds.{widthOf}
+use Rattle.kinds.specs.Kinds.{kindWidth}
 use Rattle.kinds.proofs.Widths.{width-bounds}
 use Rattle.kinds.proofs.judge.kind_answer.Statement.{statement}
 use Rattle.kinds.proofs.judge.kind_answer.Tie as tie
@@ -17,7 +17,7 @@ use Rattle.kinds.proofs.judge.kind_answer.Tie as tie
 abbrev start-of : tie.After-record-count → tie.Start
 start-of c = c .before .before .before
 
-count-at : (c : tie.After-record-count) → let a = start-of c .args in c .record-count .result ≡ recordCount (widthOf (a .kind)) (now (a .list))
+count-at : (c : tie.After-record-count) → let a = start-of c .args in c .record-count .result ≡ recordCount (kindWidth (a .kind)) (now (a .list))
 count-at c = c .record-count .ensures ∙ ap (λ (w : ℕ). recordCount w (now (start-of c .args .list))) (c .before .width-of .ensures)
 
 record-count-requires : tie.Need-record-count-requires
