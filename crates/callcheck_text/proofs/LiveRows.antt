@@ -37,7 +37,7 @@ use Rattle.text.specs.Lines.{lines}
 use Rattle.text.specs.RowLines.{rowText, rowsText, passedText}
 use Rattle.callcheck_text.specs.Run.{OPS-ROOM}
 use Rattle.callcheck_text.specs.Output.{TABLE-ROOM, checkedRows, start, rowLines, LiveRowsPrinted}
-use Rattle.callcheck_text.proofs.Passes.{lines-tried, rows, made, table, table-is, table-rows, live-count, verdict-passes}
+use Rattle.callcheck_text.proofs.Passes.{lines-tried, rows, made, table-is, table-rows, live-count, verdict-passes}
 
 -- the lines of the records that are read off rows are the lines of these rows
 lines-read : (k : ℕ) (rows : List (List ℕ)) → rowsText k (length rows) (flatMap (λ row. opRecord (opAt row)) rows) ≡ rowLines k rows

@@ -1,7 +1,7 @@
 -- Sums and differences modulo 2^64, plain and wrapped. Document 01: "INCR, DECR and RES are sums taken modulo 2^64, as the Rust's wrapping
 -- calls". Assumes nothing.
 use mathlib.Core.Path.{_≡_}
-use Prim.Native.Nat.{ℕ, _+_, _-_, _*_, _/_, _%_, _^_, _≤_, _<_}
+use Prim.Native.Nat.{ℕ, _+_, _-_, _^_, _≤_, _<_}
 use native.Mathlib.Omega.{arith}
 use Rattle.words.specs.Words.{wrapAdd, wrapSub}
 

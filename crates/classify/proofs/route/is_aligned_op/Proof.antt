@@ -1,6 +1,5 @@
 -- `classify::route::is_aligned_op` meets its contract: the two tests of the definition. Assumes nothing.
 use native.Mathlib.Omega.{arith}
-use borrow.Author.Needs.{needs}
 use Rattle.access.proofs.Good.{good-length, good-width}
 use Rattle.classify.specs.Classify.{isAlignedOp}
 use Rattle.classify.proofs.route.is_aligned_op.Statement.{statement}

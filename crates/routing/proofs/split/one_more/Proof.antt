@@ -1,6 +1,5 @@
 -- `routing::split::one_more` meets its contract: of the three counts, that of the table grows. Assumes nothing.
 use native.Mathlib.Omega.{arith}
-use borrow.Author.Needs.{needs}
 use Rattle.access.specs.declared.AccessTable.the-variants.{General, Aligned, Register}
 use Rattle.routing.proofs.Routes.{counts-with-one}
 use Rattle.routing.proofs.split.one_more.Statement.{statement}

@@ -12,7 +12,6 @@ use borrow.Author.Needs.{needs}
 use Rattle.lists.specs.Lists.{store}
 use Rattle.access.specs.Access.{ACCESS-WIDTH}
 use Rattle.access.specs.Tables.{REGISTER-WIDTH, sameTable}
-use Rattle.access.specs.declared.AccessTable.{AccessTable}
 use Rattle.access.specs.declared.AccessTable.the-variants.{General, Aligned, Register}
 use Rattle.access.proofs.Good.{good-length}
 use Rattle.classify.specs.Classify.{tableFor}
