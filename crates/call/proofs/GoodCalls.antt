@@ -10,7 +10,7 @@ use Rattle.call.specs.Calls.{kindNumber, kindOf}
 use Rattle.call.specs.declared.Functionality.{Functionality}
 use Rattle.call.specs.declared.Functionality.the-variants.{Copy, Set, Write}
 use Rattle.call.specs.Flat.{HANDED-WIDTH, callFrom, callLimits, goodCall}
-use Rattle.call.specs.Cuts.{Words}
+use Rattle.call.specs.Cuts.{FitsTypes}
 
 module _ (r : List ℕ) (good : goodCall r ≡ true) where
   pub good-whole : length r ≡ HANDED-WIDTH
@@ -18,7 +18,7 @@ module _ (r : List ℕ) (good : goodCall r ≡ true) where
   good-whole = within-length callLimits r good
 
   -- its numbers fit their types
-  pub good-words : Words (callFrom r)
+  pub good-words : FitsTypes (callFrom r)
   unfolding callLimits
   good-words =
       record {

@@ -68,7 +68,7 @@ Cut zero pieces = length pieces ≡ 1
 Cut (suc n) pieces = total pieces ≡ suc n
 
 -- the numbers of a call fit their types
-pub record Words (c : Call) : Type 0 where
+pub record FitsTypes (c : Call) : Type 0 where
   pub kind : c .kind ≤ 2
   pub stamp : c .stamp < 2 ^ 64
   pub src : c .src < 2 ^ 64
@@ -85,7 +85,7 @@ pub record PieceOk (piece : Piece) : Type 0 where
 -- document 01: "A call is sound if two things hold. Unless count is 0, src + count and dst + count are below 2^64. If Set, even with
 -- count 0, dst = src + gap as a plain sum." Its numbers fit their types
 pub record Sound (gap : ℕ) (c : Call) : Type 0 where
-  pub words : Words c
+  pub words : FitsTypes c
   pub reach : (c .count ≡ 0) ⊎ ((c .src + c .count < 2 ^ 64) × (c .dst + c .count < 2 ^ 64))
   pub gapped : c .kind ≡ 1 → c .dst ≡ c .src + gap
 

@@ -24,7 +24,7 @@ use Rattle.records.proofs.RowCount.{row-count-le}
 use Rattle.call.specs.Calls.{Op, callWith}
 use Rattle.call.specs.Calls as calls
 use Rattle.call.specs.Ops.{opRecord, OP-WIDTH}
-use Rattle.call.specs.Cuts.{opsOf, Words}
+use Rattle.call.specs.Cuts.{opsOf, FitsTypes}
 use Rattle.words.proofs.Digits.{below-same}
 use Rattle.expansion.specs.Tries.{Try, Typed, Setting, under, Lent, tryOf}
 use Rattle.expansion.specs.Refusals.{answered}
@@ -59,7 +59,7 @@ use Rattle.callcheck_text.proofs.Typed.{call-words}
 -- what lines that are not refused leave: the records of these calls, taken in turn
 pub record Tried (s : Setting) (l : Lent) (records : List ℕ) : Type 0 where
   pub calls : List calls.Call
-  pub words : All Words calls
+  pub words : All FitsTypes calls
   pub wrote : records ≡ acceptedOps s (triesOf s calls l)
 
 not-done : (n line : ℕ) (records : List ℕ) → refused n line ≡ done records → ⊥

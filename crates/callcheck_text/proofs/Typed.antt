@@ -8,7 +8,7 @@ use borrow.Author.Tests.{ltb-true}
 use lib.Dec.{leb, ltb}
 use lib.ListN.{length}
 use Rattle.call.specs.Calls.{callWith}
-use Rattle.call.specs.Cuts.{Words}
+use Rattle.call.specs.Cuts.{FitsTypes}
 use Rattle.call.specs.declared.Functionality.{Functionality}
 use Rattle.call.proofs.GoodCalls.{kind-small}
 use Rattle.text.specs.Pieces.{before, after}
@@ -43,7 +43,7 @@ module _ (l : List ℕ) (kind : Functionality) (stamp src dst count : ℕ) where
       → numberOf (after 9 (after 9 (after 9 (after 9 l)))) ≡ d
       → withKind w (λ k. withNumber a (λ t. withNumber b (λ s. withNumber c (λ e. withNumber d (λ n. Call k t s e n)))))
       ≡ Call kind stamp src dst count
-      → Words (callWith kind stamp src dst count)
+      → FitsTypes (callWith kind stamp src dst count)
   below-at Unknown a b c d ea eb ec ed h = let z : _≡_ {A = ℕ} 0 1 = cc in absurd (omega arith)
   below-at (Known k) Bad b c d ea eb ec ed h = let z : _≡_ {A = ℕ} 0 1 = cc in absurd (omega arith)
   below-at (Known k) (Number t) Bad c d ea eb ec ed h = let z : _≡_ {A = ℕ} 0 1 = cc in absurd (omega arith)
@@ -62,6 +62,6 @@ module _ (l : List ℕ) (kind : Functionality) (stamp src dst count : ℕ) where
         count = omega (arith, number-below _ n ed);
       }
 
-  pub call-words : callLine l ≡ Call kind stamp src dst count → Words (callWith kind stamp src dst count)
+  pub call-words : callLine l ≡ Call kind stamp src dst count → FitsTypes (callWith kind stamp src dst count)
   unfolding callLine
   call-words h = below-at (wordOf (before 9 l)) _ _ _ _ refl refl refl refl h

@@ -8,7 +8,7 @@ use Rattle.lists.specs.Lists.{All}
 use Rattle.words.specs.Words.{Bytes}
 use Rattle.call.specs.Calls.{Call}
 use Rattle.call.specs.Flat.{callFrom, goodCall}
-use Rattle.call.specs.Cuts.{Words}
+use Rattle.call.specs.Cuts.{FitsTypes}
 use Rattle.call.proofs.GoodCalls.{good-words}
 use Rattle.expansion_rows.specs.Rows.{widthsOf}
 use Rattle.expansion.specs.Tries.{Setting, Lent, Try, tryOf, Typed}
@@ -18,12 +18,12 @@ use Rattle.expansion.proofs.CallBytes.{call-bytes}
 use Rattle.calls_in_turn.specs.InTurn.{callsFrom, leaves, triesOf}
 
 -- the calls of a flat list are good ones
-pub calls-words : (rs : List (List ℕ)) → All Words (callsFrom rs)
+pub calls-words : (rs : List (List ℕ)) → All FitsTypes (callsFrom rs)
 unfolding callsFrom
 calls-words [] = tt
 calls-words (r ∷ rs) = go (goodCall r) refl (calls-words rs)
   where
-    go : (b : Bool) → goodCall r ≡ b → All Words (callsFrom rs) → All Words (cond b (callFrom r ∷ callsFrom rs) (callsFrom rs))
+    go : (b : Bool) → goodCall r ≡ b → All FitsTypes (callsFrom rs) → All FitsTypes (cond b (callFrom r ∷ callsFrom rs) (callsFrom rs))
     go true e later = (good-words r e, later)
     go false e later = later
 
@@ -36,7 +36,7 @@ module _ (s : Setting) where
       go (inl r) = rw (r .kept) h
       go (inr k) = rw (k .after) (call-bytes (t .call) (widthsOf (t .call)) (t .slices .bytes) h)
 
-  pub tries-typed : (cs : List Call) (l : Lent) → All Words cs → Bytes (l .bytes) → All Typed (triesOf s cs l)
+  pub tries-typed : (cs : List Call) (l : Lent) → All FitsTypes cs → Bytes (l .bytes) → All Typed (triesOf s cs l)
   unfolding triesOf
   tries-typed [] l w h = tt
   tries-typed (c ∷ cs) l w h =

@@ -10,7 +10,7 @@ use Rattle.lists.proofs.Numbers.{eight-back}
 use Rattle.words.specs.Words.{bit}
 use Rattle.words.proofs.Digits.{number-digits, number-whole}
 use Rattle.call.specs.Calls.{Op}
-use Rattle.call.specs.Cuts.{Words, PieceOk}
+use Rattle.call.specs.Cuts.{FitsTypes, PieceOk}
 use Rattle.copy_row.specs.Columns.{TIMESTAMP, VALUE, SRC, SRC-INCR, DST, DST-INCR, COUNT, COUNT-DECR, DST-RES, FIRST, END, MU}
 use Rattle.copy_row.specs.Rows.{wrapped, dstRes, rowOf}
 use Rattle.copy_meaning.specs.ReadRow.{wordsAt, halvesAt, widthAt, kindAt, callAt, opAt, nextAt}
@@ -76,7 +76,7 @@ module _ (mu : ℕ) (o : Op) where
   unfolding rowOf
   dst-res-back h = number-whole 16 4 (dstRes (o .call)) h
 
-  module _ (fits : Words (o .call)) where
+  module _ (fits : FitsTypes (o .call)) where
     pub kind-read : kindAt (rowOf mu o) ≡ o .call .kind
     unfolding rowOf
     kind-read = kind-back (o .call .kind) (fits .kind)

@@ -11,7 +11,7 @@ use lib.ListN.{length}
 use Rattle.lists.specs.Lists.{at, eightAt}
 use Rattle.words.specs.Words.{words, halves, wrapSub, bit}
 use Rattle.words.proofs.Digits.{digits-number}
-use Rattle.call.specs.Cuts.{Words, PieceOk}
+use Rattle.call.specs.Cuts.{FitsTypes, PieceOk}
 use Rattle.copy_row.specs.Columns.{TIMESTAMP, VALUE, SRC, SRC-INCR, DST, DST-INCR, COUNT, COUNT-DECR, DST-RES, FIRST, END, SINGLE, IS-SET, IS-WRITE}
 use Rattle.copy_row.specs.Columns.{MU, MU-COM, MU-COM-WIDE, COLUMNS}
 use Rattle.copy_row.specs.Rows.{dstRes, muCom, rowOf}
@@ -102,7 +102,7 @@ module _ (gap : ℕ) (row : List ℕ) (wide : length row ≡ COLUMNS) (range : I
 
   -- The step
 
-  fitting : Words (callAt row)
+  fitting : FitsTypes (callAt row)
   fitting =
       record {
         kind = omega (arith, one);

@@ -5,7 +5,7 @@ use mathlib.Core.Logic.{_⊎_, inl, inr}
 use Prim.Native.Nat.{ℕ, zero, suc, _+_, _-_, _*_, _^_, _≤_, _<_}
 use native.Mathlib.Omega.{arith}
 use Rattle.call.specs.Calls.{Op}
-use Rattle.call.specs.Cuts.{Words, PieceOk}
+use Rattle.call.specs.Cuts.{FitsTypes, PieceOk}
 use Rattle.copy_meaning.specs.Steps.{Move, empty, ends, more, RowStep}
 use Rattle.copy_meaning.specs.Plain.{Free, Last}
 
@@ -19,7 +19,7 @@ pub record Bounds (mu : ℕ) (o : Op) : Type 0 where
   pub last : Last (o .piece .width) (o .end) (o .call .count)
 
 pub record StepFacts (gap mu : ℕ) (o : Op) : Type 0 where
-  pub words : Words (o .call)
+  pub words : FitsTypes (o .call)
   pub piece : PieceOk (o .piece)
   pub live : mu < 2
   pub first : o .first ≤ mu

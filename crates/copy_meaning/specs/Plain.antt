@@ -19,7 +19,7 @@ abbrev pub Last : (width end count : ℕ) → Type 0
 Last width end count = count + 2 ^ 64 * end ≤ width + 2 ^ 64
 
 -- a row with a mark or a kind is live and has one kind; an empty row opens and ends its call; the multiplicities
-pub record Flags (first end single set write firstWrite mu muCom muComWide count : ℕ) : Type 0 where
+pub record PlainFlags (first end single set write firstWrite mu muCom muComWide count : ℕ) : Type 0 where
   pub first-live : first ≤ mu
   pub end-live : end ≤ mu
   pub kinds : set + write ≤ mu
@@ -30,12 +30,12 @@ pub record Flags (first end single set write firstWrite mu muCom muComWide count
   pub mu-com-wide : muComWide ≡ muCom * (1 - single)
 
 -- next is x and the width
-pub record Moves (width mu count x next : ℕ) : Type 0 where
+pub record PlainMoves (width mu count x next : ℕ) : Type 0 where
   pub sum : next ≡ wrapAdd x width
   pub free : Free width mu count x
 
 -- next is the count less the width, which wraps from 0 only
-pub record Counts (width end count next : ℕ) : Type 0 where
+pub record PlainCounts (width end count next : ℕ) : Type 0 where
   pub sum : next + width ≡ count + 2 ^ 64 * (1 - count)
   pub last : Last width end count
 
@@ -43,15 +43,15 @@ pub record Counts (width end count next : ℕ) : Type 0 where
 
 abbrev pub FlagsAt : List ℕ → Type 0
 FlagsAt row =
-    Flags (at row FIRST) (at row END) (at row SINGLE) (at row IS-SET) (at row IS-WRITE) (at row FIRST-WRITE) (at row MU) (at row MU-COM)
+    PlainFlags (at row FIRST) (at row END) (at row SINGLE) (at row IS-SET) (at row IS-WRITE) (at row FIRST-WRITE) (at row MU) (at row MU-COM)
     (at row MU-COM-WIDE) (wordsAt row COUNT)
 
 -- the address in words at column c, and its sum two columns on: SRC or DST
 abbrev pub MovesAt : List ℕ → ℕ → Type 0
-MovesAt row c = Moves (widthAt row) (at row MU) (wordsAt row COUNT) (wordsAt row c) (halvesAt row (c + 2))
+MovesAt row c = PlainMoves (widthAt row) (at row MU) (wordsAt row COUNT) (wordsAt row c) (halvesAt row (c + 2))
 
 abbrev pub CountsAt : List ℕ → Type 0
-CountsAt row = Counts (widthAt row) (at row END) (wordsAt row COUNT) (halvesAt row COUNT-DECR)
+CountsAt row = PlainCounts (widthAt row) (at row END) (wordsAt row COUNT) (halvesAt row COUNT-DECR)
 
 -- where a Write ends, and DST else
 abbrev pub ResultAt : List ℕ → Type 0

@@ -3,7 +3,7 @@
 use mathlib.Core.Path.{_≡_}
 use Prim.Native.Nat.{ℕ, zero, suc, _+_, _^_, _≤_, _<_}
 use Rattle.call.specs.Calls.{Op}
-use Rattle.call.specs.Cuts.{Words, PieceOk}
+use Rattle.call.specs.Cuts.{FitsTypes, PieceOk}
 
 -- the three ways in which a live row moves: an empty call's one row; a last row, which moves all that is left; a row with more to come
 pub data Move (o : Op) : Type 0 where
@@ -13,7 +13,7 @@ pub data Move (o : Op) : Type 0 where
 
 -- a live row that passes
 pub record LiveStep (gap : ℕ) (o : Op) : Type 0 where
-  pub words : Words (o .call)
+  pub words : FitsTypes (o .call)
   pub gapped : o .call .kind ≡ 1 → o .call .dst ≡ o .call .src + gap
   pub piece : PieceOk (o .piece)
   pub bits : o .first ≤ 1
@@ -21,7 +21,7 @@ pub record LiveStep (gap : ℕ) (o : Op) : Type 0 where
 
 -- a dead row that passes: not always padding
 pub record DeadStep (o : Op) : Type 0 where
-  pub words : Words (o .call)
+  pub words : FitsTypes (o .call)
   pub piece : PieceOk (o .piece)
   pub kind : o .call .kind ≡ 0
   pub first : o .first ≡ 0

@@ -5,7 +5,7 @@ use mathlib.Core.List.{List}
 use Prim.Native.Nat.{ℕ, _^_, _<_}
 use lib.ListN.{length}
 use Rattle.call.specs.Calls.{Op}
-use Rattle.call.specs.Cuts.{Words, PieceOk}
+use Rattle.call.specs.Cuts.{FitsTypes, PieceOk}
 use Rattle.copy_row.specs.Columns.{COLUMNS}
 use Rattle.copy_row.specs.Rows.{wrapped, rowOf, tableRow, paddingRow}
 use Rattle.copy_residues.specs.RowCheck.{rowFault, Fine}
@@ -24,8 +24,8 @@ pub record RowMeaning : Type 0 where
   pub live-passes : (gap : ℕ) (o : Op) → gap < 2 ^ 32 → LiveStep gap o → rowFault gap (tableRow o) ≡ Fine
   pub padding-passes : (gap : ℕ) → gap < 2 ^ 32 → rowFault gap paddingRow ≡ Fine
   -- what is read off a made row is its record, and what the row hands on is what the record's wrapped sums say
-  pub op-back : (mu : ℕ) (o : Op) → Words (o .call) → PieceOk (o .piece) → opAt (rowOf mu o) ≡ o
-  pub next-back : (mu : ℕ) (o : Op) → Words (o .call) → nextAt (rowOf mu o) ≡ wrapped o
+  pub op-back : (mu : ℕ) (o : Op) → FitsTypes (o .call) → PieceOk (o .piece) → opAt (rowOf mu o) ≡ o
+  pub next-back : (mu : ℕ) (o : Op) → FitsTypes (o .call) → nextAt (rowOf mu o) ≡ wrapped o
   -- DST_RES is never free, so document 01's exception has no instance
   pub never-free : NeverFree
   pub call-row : CallRowIs

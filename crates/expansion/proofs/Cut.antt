@@ -13,7 +13,7 @@ use Rattle.lists.specs.Lists.{All}
 use Rattle.words.specs.Words.{Bytes}
 use Rattle.call.specs.Calls.{Call}
 use Rattle.call.specs.Ops.{opRecord, OP-WIDTH}
-use Rattle.call.specs.Cuts.{Words, CutInto, PieceOk, piecesOf, cutFrom, Cut, Sound, Fits}
+use Rattle.call.specs.Cuts.{FitsTypes, CutInto, PieceOk, piecesOf, cutFrom, Cut, Sound, Fits}
 use Rattle.call.proofs.Cuts.{nothing-cut, first-pos, first-within, cut-single}
 use Rattle.window.specs.Window.{Window}
 use Rattle.expansion_rows.specs.Rows.{rowsBy, widthsOf}
@@ -46,7 +46,7 @@ cut c bytes b = ops-cut (widthsOf c) c bytes (widths-cut c) b .0
 
 -- Soundness
 
-pub fair-sound : (s : Setting) (c : Call) (n : Lengths) → s .limit < 2 ^ 64 → Words c → Fair s c n → Sound (s .gap) c
+pub fair-sound : (s : Setting) (c : Call) (n : Lengths) → s .limit < 2 ^ 64 → FitsTypes c → Fair s c n → Sound (s .gap) c
 fair-sound s c n small words f =
     record {
       words = words;
@@ -54,7 +54,7 @@ fair-sound s c n small words f =
       gapped = f .apart;
     }
 
-pub fits : (s : Setting) → s .limit < 2 ^ 64 → (t : Try) → Words (t .call) → Bytes (t .slices .bytes) → Accepts s t
+pub fits : (s : Setting) → s .limit < 2 ^ 64 → (t : Try) → FitsTypes (t .call) → Bytes (t .slices .bytes) → Accepts s t
     → Fits (s .gap) (cutCall (t .call) (t .slices .bytes))
 fits s small t words b e =
     let c = t .call in

@@ -10,7 +10,7 @@ use lib.ListN.{length, take, drop}
 use Rattle.lists.specs.Lists.{store, at}
 use Rattle.words.specs.Words.{Bytes}
 use Rattle.call.specs.Calls.{Call, Piece, Op}
-use Rattle.call.specs.Cuts.{Words, CutInto, CutCall, piecesOf, cutFrom, Fits}
+use Rattle.call.specs.Cuts.{FitsTypes, CutInto, CutCall, piecesOf, cutFrom, Fits}
 use Rattle.window.specs.Window.{Window, windowOf}
 use Rattle.expansion_rows.specs.Rows.{widthsOf}
 use Rattle.expansion.specs.Refusals.{opCount, accessCount, Accepts}
@@ -67,7 +67,7 @@ pub record Consequences : Type 0 where
   -- the operation records are a cut of the call: FIRST on the first, END on the last, each with the call as it remains there
   pub cut : (c : Call) (bytes : List ℕ) → Bytes bytes → callOps c bytes ≡ cutFrom c 1 (callPieces c bytes)
   -- an accepted call is sound, and its pieces have widths of 1 and 8 that sum to its count
-  pub fits : (s : Setting) → s .limit < 2 ^ 64 → (t : Try) → Words (t .call) → Bytes (t .slices .bytes) → Accepts s t
+  pub fits : (s : Setting) → s .limit < 2 ^ 64 → (t : Try) → FitsTypes (t .call) → Bytes (t .slices .bytes) → Accepts s t
       → Fits (s .gap) (cutCall (t .call) (t .slices .bytes))
   -- the counts in the answer are those of the records
   pub counts : (c : Call) (m : Window) → c .kind < 3 → (length (callOps c (m .bytes)) ≡ opCount c) × (length (callAccesses c m) ≡ accessCount c)

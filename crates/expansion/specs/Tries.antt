@@ -5,7 +5,7 @@ use lib.ListN.{length}
 use Rattle.words.specs.Words.{Bytes}
 use Rattle.records.specs.Records.{LIMIT}
 use Rattle.call.specs.Calls.{Call}
-use Rattle.call.specs.Cuts.{Words}
+use Rattle.call.specs.Cuts.{FitsTypes}
 
 -- how many cells a window may have, and the gap
 pub record Setting : Type 0 where
@@ -52,5 +52,5 @@ tryOf c l = record { call = c; slices = l }
 
 -- what the types of these say: a kind and numbers of 64 bits, and bytes
 pub record Typed (t : Try) : Type 0 where
-  pub words : Words (t .call)
+  pub words : FitsTypes (t .call)
   pub bytes : Bytes (t .slices .bytes)

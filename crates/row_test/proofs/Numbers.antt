@@ -8,7 +8,7 @@ use lib.Dec.{eqb, ltb, leb}
 use borrow.Author.Tests.{eqb-true, eqb-false, leb-true, ltb-true, eq-eqb, le-leb, lt-ltb}
 use Rattle.words.specs.Words.{wrapAdd, wrapSub}
 use Rattle.words.proofs.Wrap.{sub-plain}
-use Rattle.copy_meaning.specs.Plain.{Free, Last, Flags, Moves, Counts}
+use Rattle.copy_meaning.specs.Plain.{Free, Last, PlainFlags, PlainMoves, PlainCounts}
 use Rattle.copy_meaning.proofs.Decrement.{decr-back, decr-of}
 use Rattle.row_test.proofs.Booleans.{eq-iff, le-iff, and-iff, _and_, or-iff}
 
@@ -22,7 +22,7 @@ pub flags-iff : (first end single set write firstWrite mu muCom muComWide count 
     → n ≡ 1 - count → opening ≡ first * write → gate ≡ (1 - n) * write → wide ≡ muCom * (1 - single)
     → (((((((leb first mu && leb end mu) && leb (set + write) mu) && eqb firstWrite opening) && leb n first) && leb n end) && eqb muCom gate)
     && eqb muComWide wide ≡ true)
-    ↔ Flags first end single set write firstWrite mu muCom muComWide count
+    ↔ PlainFlags first end single set write firstWrite mu muCom muComWide count
 flags-iff first end single set write firstWrite mu muCom muComWide count n opening gate wide e f g h =
     let test =
     le-iff first first mu refl
@@ -52,7 +52,7 @@ flags-iff first end single set write firstWrite mu muCom muComWide count n openi
 
 -- an address and its increment d: it does not wrap, or nothing moves
 pub moves-iff : (w mu count x next d : ℕ) → 0 < w → w < 9 → mu < 2 → x < 2 ^ 64 → d ≡ wrapAdd x w
-    → (eqb next d && ((eqb mu 0 || eqb count 0) || ltb x next) ≡ true) ↔ Moves w mu count x next
+    → (eqb next d && ((eqb mu 0 || eqb count 0) || ltb x next) ≡ true) ↔ PlainMoves w mu count x next
 moves-iff w mu count x next d hw hl hm hx e =
     (λ h. let t = test .0 h in record { sum = t .0; free = t .1 }, λ q. test .1 (q .sum, q .free))
   where
@@ -84,7 +84,7 @@ module _ (w end count next d : ℕ) (hc : count < 2 ^ 64) (hw : (0 < w) × (w �
         λ q. test .1 (decr-of count next w hc hw q, omega (arith, q)),
       )
 
-  pub counts-iff : ((eqb next d && (eqb count 0 || leb w count)) && (eqb end 0 || leb count w) ≡ true) ↔ Counts w end count next
+  pub counts-iff : ((eqb next d && (eqb count 0 || leb w count)) && (eqb end 0 || leb count w) ≡ true) ↔ PlainCounts w end count next
   counts-iff = (λ h. let t = test .0 h in record { sum = t .0; last = t .1 }, λ q. test .1 (q .sum, q .last))
     where
       last : (eqb end 0 || leb count w ≡ true) ↔ Last w end count

@@ -5,7 +5,7 @@ ghost use mathlib.Core.Bool.{true};
 ghost use mathlib.Core.Logic.{_↔_};
 ghost use Prim.Native.Nat.{_+_, _-_, _*_, _<_};
 ghost use Rattle.words.specs.Words.{wrapAdd};
-ghost use Rattle.copy_meaning.specs.Plain.{Flags, Moves, Counts};
+ghost use Rattle.copy_meaning.specs.Plain.{PlainFlags, PlainMoves, PlainCounts};
 use words::wrapping_add;
 use words::wrapping_sub;
 
@@ -40,7 +40,7 @@ pub fn flags(
     count: u64,
 ) -> bool
     requires { ⌜ (single < 2) × (set < 2) × (write < 2) ⌝ }
-    ensures { λ r. ⌜ ((r ≡ true) ↔ Flags first end single set write «first_write» mu «mu_com» «mu_com_wide» count) ⌝ }
+    ensures { λ r. ⌜ ((r ≡ true) ↔ PlainFlags first end single set write «first_write» mu «mu_com» «mu_com_wide» count) ⌝ }
 {
     let nothing = empty(count);
     (first <= mu)
@@ -56,7 +56,7 @@ pub fn flags(
 // SRC or DST and its increment.
 pub fn moves(single: u64, mu: u64, count: u64, x: u64, next: u64) -> bool
     requires { ⌜ (single < 2) × (mu < 2) ⌝ }
-    ensures { λ r. ⌜ ((r ≡ true) ↔ Moves (8 - 7 * single) mu count x next) ⌝ }
+    ensures { λ r. ⌜ ((r ≡ true) ↔ PlainMoves (8 - 7 * single) mu count x next) ⌝ }
 {
     (next == wrapping_add(x, 8 - 7 * single)) & ((mu == 0) | (count == 0) | (x < next))
 }
@@ -64,7 +64,7 @@ pub fn moves(single: u64, mu: u64, count: u64, x: u64, next: u64) -> bool
 // COUNT and its decrement.
 pub fn counts(single: u64, end: u64, count: u64, next: u64) -> bool
     requires { ⌜ (single < 2) × (end < 2) ⌝ }
-    ensures { λ r. ⌜ ((r ≡ true) ↔ Counts (8 - 7 * single) end count next) ⌝ }
+    ensures { λ r. ⌜ ((r ≡ true) ↔ PlainCounts (8 - 7 * single) end count next) ⌝ }
 {
     let width = 8 - 7 * single;
     (next == wrapping_sub(count, width))

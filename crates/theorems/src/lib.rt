@@ -35,7 +35,7 @@ pub fn first_is_lowest_holds() -> bool
     true
 }
 
-// Words, halves and bytes: a number from its digits and back, for every width.
+// FitsTypes, halves and bytes: a number from its digits and back, for every width.
 pub fn digit_laws_hold() -> bool
     ensures { λ r. ⌜ (r ≡ true) × DigitLaws ⌝ }
 {

@@ -13,7 +13,7 @@ use Rattle.records.specs.declared.TableAnswer.the-variants.{Made}
 use Rattle.call.specs.Calls.{Piece}
 use Rattle.call.specs.Ops.{opRecord, OP-WIDTH}
 use Rattle.call.specs.Flat.{CALL-WIDTH, callNumbers}
-use Rattle.call.specs.Cuts.{Words, CutCall, opsOf, Fits, HasRow, callsOf}
+use Rattle.call.specs.Cuts.{FitsTypes, CutCall, opsOf, Fits, HasRow, callsOf}
 use Rattle.expansion.specs.Tries.{under, Try, Typed}
 use Rattle.expansion.specs.Refusals.{Accepts}
 use Rattle.expansion.specs.Expansion.{lentAfter}
@@ -76,7 +76,7 @@ pub record AnyPiece (piece : Piece) : Type 0 where
   pub eight : length (piece .value) ≡ 8
 
 pub record AnyCall (k : CutCall) : Type 0 where
-  pub words : Words (k .call)
+  pub words : FitsTypes (k .call)
   pub pieces : All AnyPiece (k .pieces)
   pub row : HasRow k
 

@@ -1,4 +1,4 @@
--- Digits of any width: a number from its digits and back. Words, halves and bytes of a 64-bit number are the widths 32, 16 and 8.
+-- Digits of any width: a number from its digits and back. FitsTypes, halves and bytes of a 64-bit number are the widths 32, 16 and 8.
 -- Document 01: "Facts on words, halves and bytes are shown with the width as a parameter". Assumes nothing.
 use mathlib.Core.Path.{_≡_, refl, sym, ap, _∙_}
 use mathlib.Core.List.{List, [], _∷_}

@@ -1,4 +1,4 @@
--- Facts on words, halves and bytes. Document 01: "Facts on words, halves and bytes are shown with the width as a parameter." Words are the
+-- Facts on words, halves and bytes. Document 01: "Facts on words, halves and bytes are shown with the width as a parameter." FitsTypes are the
 -- width 32, halves 16, bytes 8. `digit_laws_hold` in theorems carries `DigitLaws`. Assumes nothing.
 use mathlib.Core.Path.{_≡_}
 use mathlib.Core.List.{List}
