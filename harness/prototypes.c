@@ -80,6 +80,15 @@ static void lent(list l)
         free(records.at);                                                  \
     }
 
+#define UNDER_GAP(f)                             \
+    static void ask_##f(void)                    \
+    {                                            \
+        uint64_t gap = number();                 \
+        list rows = numbers();                   \
+        answer(f(gap, rows.at, rows.length));    \
+        free(rows.at);                           \
+    }
+
 ON_ELEMENTS(field_add)
 ON_ELEMENTS(field_sub)
 ON_ELEMENTS(field_mul)
@@ -90,6 +99,8 @@ ON_RECORDS(generate_copy_trace)
 ON_RECORDS(generate_memw_trace)
 ON_RECORDS(generate_memw_aligned_trace)
 ON_RECORDS(generate_memw_register_trace)
+UNDER_GAP(chain_check)
+UNDER_GAP(row_check)
 
 static void ask_copy_residue(void)
 {
@@ -189,14 +200,6 @@ static void ask_collect_copy_ops(void)
     lent(counts);
 }
 
-static void ask_chain_check(void)
-{
-    uint64_t gap = number();
-    list rows = numbers();
-    answer(chain_check(gap, rows.at, rows.length));
-    free(rows.at);
-}
-
 static void ask_read_back(void)
 {
     uint64_t gap = number();
@@ -233,6 +236,7 @@ static const struct {
     {"collect_copy_register_ops", ask_collect_copy_register_ops},
     {"collect_copy_ops", ask_collect_copy_ops},
     {"chain_check", ask_chain_check},
+    {"row_check", ask_row_check},
     {"read_back", ask_read_back},
 };
 

@@ -82,6 +82,10 @@ minjolf_answer collect_copy_ops(uint64_t kind, uint64_t timestamp, uint64_t src,
                                 uint8_t *bytes, size_t bytes_length, uint64_t *stamps, size_t stamps_length, uint64_t *ops,
                                 size_t ops_length, uint64_t *accesses, size_t accesses_length, uint64_t counts[2]);
 
+/* One copy row by itself: 41 numbers. Refuses with 7, 13, 14 (place: the index of the lowest number not below p), 15, 16 (value: the
+ * residue's index); place 0 but for 14. value: 0. */
+minjolf_answer row_check(uint64_t gap, const uint64_t *row, size_t row_length);
+
 /* value: rows. */
 minjolf_answer chain_check(uint64_t gap, const uint64_t *rows, size_t rows_length);
 

@@ -103,6 +103,7 @@ mod c {
             counts: *mut u64,
         ) -> Answer;
         pub fn chain_check(gap: u64, rows: *const u64, rows_length: usize) -> Answer;
+        pub fn row_check(gap: u64, row: *const u64, row_length: usize) -> Answer;
         pub fn read_back(
             gap: u64,
             rows: *const u64,
@@ -301,6 +302,10 @@ pub fn chain_check(gap: u64, rows: &[u64]) -> Answer {
         exported_chain_check,
         chain_check(gap, rows.as_ptr(), rows.len())
     )
+}
+
+pub fn row_check(gap: u64, row: &[u64]) -> Answer {
+    call!(exported_row_check, row_check(gap, row.as_ptr(), row.len()))
 }
 
 #[rustfmt::skip]

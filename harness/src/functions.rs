@@ -58,6 +58,7 @@ pub const FUNCTIONS: &[Function] = &[
           LentArray(2)],
         &[1, 2, 3, 5, 7, 8, 9, 10]),
     ("chain_check", &[Number, Slice], &[7, 13, 14, 15, 16, 17, 18]),
+    ("row_check", &[Number, Slice], &[7, 13, 14, 15, 16]),
     ("read_back", &[Number, Slice, Lent, Lent, LentArray(2)],
         &[7, 9, 13, 14, 15, 16, 17, 18]),
     ("callcheck", &[Bytes], &[1, 2, 3, 5, 7, 9, 10]),

@@ -83,10 +83,11 @@ const PROGRAMS: &[Program] = &[
     },
     Program {
         name: "replay_chain",
-        numbers: 8_192,
+        numbers: 16_384,
         parts: &[
             part("chain_check", [2, 1], 130),
             part("read_back", [2, 1], 220),
+            part("row_check", [1, 1], 130),
         ],
     },
     Program {
@@ -236,8 +237,10 @@ fn class(question: &Question, reply: &Reply) -> [u64; 2] {
             return [number, if number == 0 { place } else { place.min(4) }];
         }
         (_, 0) => {}
-        ("chain_check", 16) => return [16, answer.value],
+        ("chain_check" | "row_check", 16) => return [16, answer.value],
         ("read_back", 16) => return [16, 0],
+        ("row_check", 14) => return [14, answer.place],
+        ("row_check", 13) => return [13, row_of(question).len() as u64],
         (_, number) => return [number, answer.place.min(2)],
     }
     let numbers: Vec<u64> = question.arguments.iter().filter_map(number).collect();
@@ -249,6 +252,10 @@ fn class(question: &Question, reply: &Reply) -> [u64; 2] {
         // The kind, and whether the call is empty, narrow rows only, or has wide ones.
         "collect_copy_ops" => 3 * numbers[0] + numbers[4].min(8).div_ceil(7),
         "push_reg_access" | "chain_check" | "read_back" => answer.value,
+        // FIRST to MU, which are bits in a row that passes.
+        "row_check" => row_of(question)[32..39]
+            .iter()
+            .fold(0, |bits, flag| 2 * bits + flag),
         _ => 0,
     };
     [0, chosen]
@@ -266,6 +273,14 @@ fn first_length(question: &Question) -> u64 {
     match &question.arguments[0] {
         Argument::List(list) => list.len() as u64,
         Argument::Number(number) => *number,
+    }
+}
+
+/// The row of a question to the row check.
+fn row_of(question: &Question) -> &[u64] {
+    match &question.arguments[1] {
+        Argument::List(row) => row,
+        Argument::Number(_) => unreachable!("row_check takes a gap and a row"),
     }
 }
 

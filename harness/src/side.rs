@@ -35,6 +35,7 @@ pub struct Side {
         u64, u64, u64, u64, u64, u64, &mut [u8], &mut [u64], &mut [u64], &mut [u64], &mut [u64; 2],
     ) -> Answer,
     chain_check: fn(u64, &[u64]) -> Answer,
+    row_check: fn(u64, &[u64]) -> Answer,
     read_back: fn(u64, &[u64], &mut [u64], &mut [u64], &mut [u64; 2]) -> Answer,
 }
 
@@ -47,7 +48,7 @@ macro_rules! side {
         generate_memw_aligned_trace generate_memw_register_trace
         route_accesses push_reg_access
         new_register_state collect_copy_register_ops
-        collect_copy_ops chain_check read_back
+        collect_copy_ops chain_check row_check read_back
     } };
 }
 
@@ -85,6 +86,7 @@ impl Side {
             "memw_register_residue" => (self.memw_register_residue)(s[0], n[0]),
             "add_pair" => (self.add_pair)(s[0], s[1], s[2], s[3], s[4], array(&mut lent[0])),
             "chain_check" => (self.chain_check)(n[0], s[0]),
+            "row_check" => (self.row_check)(n[0], s[0]),
             "new_register_state" => (self.new_register_state)(n[0], n[1], array(&mut lent[0])),
             name if name.starts_with("generate_") => self.table(name, s[0], &mut lent[0]),
             name => self.lent(name, n, &s, lent),

@@ -128,6 +128,28 @@ fn is_dead_row(row: &[u64]) -> bool {
     is_piece(&piece) && rest.count >= piece.width && row == dead_row(&rest, &piece)
 }
 
+/// A live row that passes alone: the row of a piece that fits into what remains and stays
+/// below 2^64. An empty call has one row; END stands on no piece but the last.
+fn is_live_row(gap: u64, row: &[u64]) -> bool {
+    let Some((rest, piece)) = read_row(row) else {
+        return false;
+    };
+    let [first, end] = [row[32] == 1, row[33] == 1];
+    let fits = match rest.count {
+        0 => first && end,
+        count => count >= piece.width && (!end || count == piece.width),
+    };
+    let count = rest.count.min(piece.width);
+    let built = live_row(&rest, &piece, first, end);
+    fits && is_piece(&piece) && is_sound(gap, &Call { count, ..rest }) && row == built
+}
+
+/// Whether one row passes alone under the gap.
+pub fn is_sound_row(gap: u64, row: &[u64]) -> bool {
+    let fits = u128::from(gap) < TWO_32 && row.len() == ROW;
+    fits && (is_dead_row(row) || is_live_row(gap, row))
+}
+
 /// What a row says of its call and piece, if its numbers can say it.
 pub fn read_row(row: &[u64]) -> Option<(Call, Piece)> {
     let number = |column: usize| {

@@ -40,7 +40,7 @@ use Rattle.copy_meaning.specs.Steps.{LiveStep}
 use Rattle.call_chain.proofs.Chained.{chain}
 use Rattle.chain.specs.Chain.{chainAnswer, chainNumbers}
 use Rattle.whole_calls.specs.Demand.{Passes}
-use Rattle.whole_calls.proofs.Whole.{steps}
+use Rattle.whole_calls.proofs.LiveRows.{steps}
 use Rattle.whole_calls.proofs.GoodRecords.{records-wide, maker-answer}
 use Rattle.whole_calls.proofs.Accepted.{cutTry, tries-fit, tries-wrote}
 use Rattle.whole_calls.proofs.Demand.{demand3}

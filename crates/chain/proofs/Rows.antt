@@ -1,8 +1,8 @@
 -- The chain check from row k on: what each finding on row k makes of the answer, and what the list's end does. Document 01: "The check
 -- stops at the first row and, in it, the first check that fails." Assumes nothing.
 use mathlib.Core.Path.{_≡_, refl, sym, ap, _∙_}
-use mathlib.Core.Bool.{true, false, cond}
 use mathlib.Core.List.{List, []}
+use mathlib.Core.Option.{none, some}
 use Prim.Native.Nat.{ℕ, _+_, _*_, _-_, _/_, _%_, _^_, _≤_, _<_}
 use native.Mathlib.Omega.{arith}
 use borrow.Author.Tests.{eq-eqb, ne-eqb, le-leb, lt-leb}
@@ -12,14 +12,18 @@ use Rattle.lists.proofs.Listed.{listed-left, listed-over, listed-length}
 use Rattle.records.specs.Records.{recordCount, recordAt, recordsIn}
 use Rattle.records.proofs.Records.{record-length}
 use Rattle.copy_row.specs.Columns.{COLUMNS}
-use Rattle.copy_residues.specs.RowCheck.{rowFault, Fine, NotElement, OutOfRange, NotZero}
+use Rattle.copy_residues.specs.RowCheck.{rowFault}
+use Rattle.copy_residues.specs.declared.faults.RowFault.the-variants.{Fine, Faulty}
+use Rattle.copy_residues.specs.declared.faults.RowCheckRefusal.{RowCheckRefusal}
 use Rattle.row_test.proofs.Columns.{caps-of-fine}
-use Rattle.chain.specs.Link.{Before, closed, unended, dead, linked, beforeOf}
-use Rattle.chain.specs.Chain.{tableRows, onFault, onEnd, chainFrom, chainAnswer}
-use Rattle.chain.specs.Inner.{standing, Stood, isUnended}
+use Rattle.chain.specs.Link.{closed, beforeOf, linkFault}
+use Rattle.chain.specs.Chain.{tableRows, onRow, onLink, chainFrom, chainAnswer}
+use Rattle.chain.specs.Inner.{standing, following, Stood}
+use Rattle.chain.specs.declared.LinkRefusal.{LinkRefusal}
+use Rattle.chain.specs.declared.link.LinkFault.the-variants.{Linked, Unlinked}
 use Rattle.chain.specs.declared.ChainAnswer.the-variants.{Passed, Refused}
-use Rattle.chain.specs.declared.ChainRefusal.the-variants.{GapTooLarge, NotRows, BadElement, BadRange, BadResidue, LinkBroken, NotEnded}
-use Rattle.chain.proofs.Links.{stood-none, stood-row, standing-none, standing-row}
+use Rattle.chain.specs.declared.ChainRefusal.the-variants.{GapTooLarge, NotRows, Row, Link}
+use Rattle.chain.proofs.Links.{stood-none, stood-row, standing-none, standing-row, following-none, following-row}
 
 -- the rows from row k on
 abbrev pub restAt : List ℕ → ℕ → List (List ℕ)
@@ -77,6 +81,12 @@ module _ (gap : ℕ) (l : List ℕ) where
           rest = checked ∙ rw (standing-none [] refl) (ap (chainFrom gap closed 0) (rest-all l whole));
         }
 
+-- What the link check is asked about at place k: a row that passed, or the list's end, where no number is left
+
+pub data Asked (gap : ℕ) (l : List ℕ) (k : ℕ) (row : List ℕ) : Type 0 where
+  a-row : k < length l / COLUMNS → row ≡ recordAt COLUMNS l k → rowFault gap row ≡ Fine → Asked gap l k row
+  the-end : length l / COLUMNS ≤ k → length row ≡ 0 → Asked gap l k row
+
 module _ (gap : ℕ) (l : List ℕ) (behind k : ℕ) (walk : Walk gap l behind k) where
   abbrev previous : List ℕ
   previous = rowBefore l behind k
@@ -84,47 +94,48 @@ module _ (gap : ℕ) (l : List ℕ) (behind k : ℕ) (walk : Walk gap l behind k
   -- at a row
   module _ (h : k < length l / COLUMNS) (row : List ℕ) (is : row ≡ recordAt COLUMNS l k) where
     at-row : chainAnswer gap l
-        ≡ onFault (rowFault gap row) k
-        (cond (linked (standing previous) row) (chainFrom gap (beforeOf row) (k + 1) (restAt l (k + 1))) (Refused (LinkBroken k)))
+        ≡ onRow (rowFault gap row) k (onLink (linkFault (standing previous) (some row)) k (chainFrom gap (beforeOf row) (k + 1) (restAt l (k + 1))))
     unfolding chainFrom
     at-row = walk .rest ∙ rw (is, listed-left (recordAt COLUMNS l) (length l / COLUMNS) k h)
 
-    pub from-element : rowFault gap row ≡ NotElement → Refused (BadElement k) ≡ chainAnswer gap l
-    from-element q = sym (at-row ∙ rw q)
-
-    pub from-range : rowFault gap row ≡ OutOfRange → Refused (BadRange k) ≡ chainAnswer gap l
-    from-range q = sym (at-row ∙ rw q)
-
-    pub from-residue : (i : ℕ) → rowFault gap row ≡ NotZero i → Refused (BadResidue k i) ≡ chainAnswer gap l
-    from-residue i q = sym (at-row ∙ rw q)
-
-    module _ (fine : rowFault gap row ≡ Fine) where
-      pub from-broken : linked (standing previous) row ≡ false → Refused (LinkBroken k) ≡ chainAnswer gap l
-      from-broken q = sym (at-row ∙ rw (fine, q))
-
-      pub walk-on : gap < 2 ^ 32 → length row ≡ COLUMNS → linked (standing previous) row ≡ true → Walk gap l COLUMNS (k + 1)
-      walk-on small wide q =
-          let here : rowBefore l COLUMNS (k + 1) ≡ row = before-next l k ∙ sym is in
-          record {
-            within = omega arith;
-            inside = omega arith;
-            stood = rw here (stood-row row wide (caps-of-fine gap small row wide fine));
-            rest = at-row ∙ rw (fine, q, here, standing-row row (omega arith));
-          }
+    pub from-row : (why : RowCheckRefusal) → rowFault gap row ≡ Faulty why → Refused (Row k why) ≡ chainAnswer gap l
+    from-row why q = sym (at-row ∙ rw q)
 
   -- at the list's end
-  module _ (h : length l / COLUMNS ≤ k) where
-    at-end : chainAnswer gap l ≡ cond (isUnended (standing previous)) (Refused (NotEnded k)) (Passed k)
-    unfolding chainFrom
-    at-end = walk .rest ∙ rw (listed-over (recordAt COLUMNS l) (length l / COLUMNS) k h) (ends (standing previous))
-      where
-        ends : (b : Before) → onEnd b k ≡ cond (isUnended b) (Refused (NotEnded k)) (Passed k)
-        ends closed = refl
-        ends (unended previous) = refl
-        ends dead = refl
+  at-end : length l / COLUMNS ≤ k → chainAnswer gap l ≡ onLink (linkFault (standing previous) none) k (Passed k)
+  unfolding chainFrom
+  at-end h = walk .rest ∙ rw (listed-over (recordAt COLUMNS l) (length l / COLUMNS) k h)
 
-    pub from-unended : isUnended (standing previous) ≡ true → Refused (NotEnded k) ≡ chainAnswer gap l
-    from-unended q = sym (at-end ∙ rw q)
+  module _ (row : List ℕ) where
+    asked-wide : k < length l / COLUMNS → row ≡ recordAt COLUMNS l k → length row ≡ COLUMNS
+    asked-wide h is = ap length is ∙ row-length l k h
 
-    pub from-end : isUnended (standing previous) ≡ false → Passed k ≡ chainAnswer gap l
-    from-end q = sym (at-end ∙ rw q)
+    pub asked-stood : gap < 2 ^ 32 → Asked gap l k row → Stood row
+    asked-stood small (a-row h is fine) = stood-row row (asked-wide h is) (caps-of-fine gap small row (asked-wide h is) fine)
+    asked-stood small (the-end h nothing) = stood-none row nothing
+
+    after : k < length l / COLUMNS → row ≡ recordAt COLUMNS l k → following row ≡ some row
+    after h is = following-row row (omega (arith, asked-wide h is))
+
+    pub from-link : Asked gap l k row → (why : LinkRefusal) → linkFault (standing previous) (following row) ≡ Unlinked why
+        → Refused (Link k why) ≡ chainAnswer gap l
+    from-link (a-row h is fine) why q = sym (at-row h row is ∙ rw (fine, sym (ap (linkFault (standing previous)) (after h is)) ∙ q))
+    from-link (the-end h nothing) why q = sym (at-end h ∙ rw (sym (ap (linkFault (standing previous)) (following-none row nothing)) ∙ q))
+
+    pub from-end : Asked gap l k row → length l / COLUMNS ≤ k → linkFault (standing previous) (following row) ≡ Linked → Passed k ≡ chainAnswer gap l
+    from-end (a-row h is fine) past q = absurd (omega arith)
+    from-end (the-end h nothing) past q = sym (at-end h ∙ rw (sym (ap (linkFault (standing previous)) (following-none row nothing)) ∙ q))
+
+    pub walk-on : gap < 2 ^ 32 → Asked gap l k row → k < length l / COLUMNS → linkFault (standing previous) (following row) ≡ Linked
+        → Walk gap l COLUMNS (k + 1)
+    walk-on small (the-end h nothing) inside q = absurd (omega arith)
+    walk-on small (a-row h is fine) inside q =
+        let here : rowBefore l COLUMNS (k + 1) ≡ row = before-next l k ∙ sym is in
+        let wide = asked-wide h is in
+        let linked = sym (ap (linkFault (standing previous)) (after h is)) ∙ q in
+        record {
+          within = omega arith;
+          inside = omega arith;
+          stood = rw here (stood-row row wide (caps-of-fine gap small row wide fine));
+          rest = at-row h row is ∙ rw (fine, linked, here, standing-row row (omega arith));
+        }

@@ -1,8 +1,9 @@
--- The row before as the code holds it: a slice of its own, with no number in it where there is no row before. Cited by
+-- The row before and the row after as the code holds them: slices, with no number in them where there is no such row. Cited by
 -- the contracts of inner functions alone. Assumes nothing.
 use mathlib.Core.Path.{_≡_}
 use mathlib.Core.Bool.{Bool, true, false}
 use mathlib.Core.List.{List, [], _∷_}
+use mathlib.Core.Option.{Option, none, some}
 use Prim.Native.Nat.{ℕ, _<_}
 use lib.ListN.{length}
 use Rattle.copy_row.specs.Columns.{COLUMNS}
@@ -13,6 +14,11 @@ use Rattle.chain.specs.Link.{Before, closed, unended, dead, beforeOf}
 unfoldable pub standing : List ℕ → Before
 standing [] = closed
 standing (x ∷ xs) = beforeOf (x ∷ xs)
+
+-- the row after it, or the list's end
+unfoldable pub following : List ℕ → Option (List ℕ)
+following [] = none
+following (x ∷ xs) = some (x ∷ xs)
 
 -- none, or a row whose columns lie below their caps
 unfoldable pub Stood : List ℕ → Type 0

@@ -1,23 +1,19 @@
 // Internal to the workspace, not open to callers: the chain check itself. Document 01: "chain check 7, 13, then row by row 14 to 17, then
-// 18". Assumes nothing.
+// 18". Document 02: "The old entry calls both, row by row, in its old order". Assumes nothing.
 ghost use mathlib.Core.Path.{_≡_};
 ghost use Rattle.chain.specs.Chain.{chainAnswer};
 use crate::ChainAnswer;
 use crate::ChainRefusal;
-use crate::link::linked;
-use crate::link::unended;
-use copy_residues::parts::parts_of;
-use copy_residues::range::first_out;
-use copy_residues::residues::NUM_RESIDUES;
-use copy_residues::residues::residue_with;
+use crate::link::LinkFault;
+use crate::link::link_check;
+use copy_residues::faults::RowFault;
 use copy_row::cols::NUM_COLUMNS;
-use field::rows::first_large;
-use row_test::row::is_plain;
+use row_check::fault::row_fault;
 
-// "The check stops at the first row and, in it, the first check that fails": nested loops over rows and residues, left by a label with row
-// and index. "A row is a run of 41 numbers of the list": each row is a slice of its own. A row that is right on plain numbers has nothing
-// to name; any other goes through 14, 15 and its residues by number, and is the last one looked at. The row before is the `behind` numbers
-// in front of row k: none at the top of the list.
+// "The check stops at the first row and, in it, the first check that fails": a loop over rows, left by its label with the row and what the
+// row check or the link check says of it. "A row is a run of 41 numbers of the list": each row is a slice of its own. The row before is the
+// `behind` numbers in front of row k: none at the top of the list. The link check is asked of each row that passed and once more of the
+// list's end, where `row` has no number; it stands in one place, so that it is compiled into the loop.
 pub fn check(gap: u64, rows: &[u64]) -> ChainAnswer
     ensures { λ r. ⌜ r ≡ chainAnswer gap (now (rows .entry)) ⌝ }
 {
@@ -36,34 +32,21 @@ pub fn check(gap: u64, rows: &[u64]) -> ChainAnswer
     let mut k: usize = 0;
     let why = 'rows: loop {
         let previous = &rows[NUM_COLUMNS * k - behind..NUM_COLUMNS * k];
+        let mut row = &rows[NUM_COLUMNS * k..NUM_COLUMNS * k];
+        if k < n {
+            row = &rows[NUM_COLUMNS * k..NUM_COLUMNS * k + NUM_COLUMNS];
+            if let RowFault::Faulty { why } = row_fault(gap, row) {
+                break 'rows ChainRefusal::Row { row: k as u64, why };
+            }
+        }
+        if let LinkFault::Unlinked { why } = link_check(previous, row) {
+            break 'rows ChainRefusal::Link {
+                place: k as u64,
+                why,
+            };
+        }
         if n <= k {
-            if unended(previous) {
-                break 'rows ChainRefusal::NotEnded { rows: k as u64 };
-            }
             return ChainAnswer::Passed { rows: k as u64 };
-        }
-        let row = &rows[NUM_COLUMNS * k..NUM_COLUMNS * k + NUM_COLUMNS];
-        if !is_plain(gap, row) {
-            if first_large(row) < NUM_COLUMNS {
-                break 'rows ChainRefusal::BadElement { row: k as u64 };
-            }
-            if first_out(row) < NUM_COLUMNS {
-                break 'rows ChainRefusal::BadRange { row: k as u64 };
-            }
-            let parts = parts_of(gap, row);
-            let mut i: u64 = 0;
-            while i < NUM_RESIDUES {
-                if residue_with(row, parts, i) != 0 {
-                    break 'rows ChainRefusal::BadResidue {
-                        row: k as u64,
-                        index: i,
-                    };
-                }
-                i += 1;
-            }
-        }
-        if !linked(previous, row) {
-            break 'rows ChainRefusal::LinkBroken { row: k as u64 };
         }
         behind = NUM_COLUMNS;
         k += 1;

@@ -16,7 +16,10 @@ use Rattle.field.specs.Rows.{firstLarge}
 use Rattle.copy_row.specs.Columns.{COLUMNS}
 use Rattle.copy_residues.specs.Range.{columnLimits, firstOut}
 use Rattle.copy_residues.specs.Residues.{residue, RESIDUES}
-use Rattle.copy_residues.specs.RowCheck.{firstResidue, rowFault, RowFault, Fine, NotElement, OutOfRange, NotZero}
+use Rattle.copy_residues.specs.RowCheck.{firstResidue, rowFault}
+use Rattle.copy_residues.specs.declared.faults.RowFault.{RowFault}
+use Rattle.copy_residues.specs.declared.faults.RowFault.the-variants.{Fine, Faulty}
+use Rattle.copy_residues.specs.declared.faults.RowCheckRefusal.the-variants.{NotElement, OutOfRange, NotZero}
 use Rattle.copy_meaning.specs.RowIff.{InRange}
 
 -- a row in range, its residues 0
@@ -26,9 +29,7 @@ pub record Clean (gap : ℕ) (row : List ℕ) : Type 0 where
 
 abbrev faultless : RowFault → Bool
 faultless Fine = true
-faultless NotElement = false
-faultless OutOfRange = false
-faultless (NotZero i) = false
+faultless (Faulty why) = false
 
 -- a check that would have named a fault, and was passed
 passed : (t : Bool) (x y : RowFault) → faultless x ≡ false → cond t x y ≡ Fine → (t ≡ false) × (y ≡ Fine)
@@ -48,9 +49,9 @@ module _ (gap : ℕ) (row : List ℕ) where
   pub fine-clean : rowFault gap row ≡ Fine → Clean gap row
   unfolding rowFault firstLarge firstOut firstResidue
   fine-clean e =
-      let a = passed (ltb (firstLarge row) (length row)) NotElement _ refl e in
-      let b = passed (ltb (firstOut row) COLUMNS) OutOfRange _ refl (a .1) in
-      let d = passed (ltb (firstResidue gap row) RESIDUES) (NotZero (firstResidue gap row)) _ refl (b .1) in
+      let a = passed (ltb (firstLarge row) (length row)) (Faulty NotElement) _ refl e in
+      let b = passed (ltb (firstOut row) COLUMNS) (Faulty OutOfRange) _ refl (a .1) in
+      let d = passed (ltb (firstResidue gap row) RESIDUES) (Faulty (NotZero (firstResidue gap row))) _ refl (b .1) in
       record {
         range = λ c h. leb-false _ _ (first-none (λ c. leb (getD columnLimits c 0) (at row c)) 0 COLUMNS c (ltb-false _ _ (b .0)) (omega arith) h);
         zeroes =

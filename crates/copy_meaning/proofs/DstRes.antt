@@ -190,7 +190,7 @@ call-row gap o row h = go (h .same)
 -- One filling
 
 -- the record read off a row does not look at DST_RES
-same-op : (row other : List ℕ) → BesidesDstRes row other → opAt row ≡ opAt other
+pub same-op : (row other : List ℕ) → BesidesDstRes row other → opAt row ≡ opAt other
 same-op row other b =
     λ i.
     record {

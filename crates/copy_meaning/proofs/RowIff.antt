@@ -11,7 +11,8 @@ use Rattle.lists.specs.Lists.{at}
 use Rattle.call.specs.Calls.{Op}
 use Rattle.copy_row.specs.Columns.{MU, COLUMNS}
 use Rattle.copy_row.specs.Rows.{rowOf, tableRow, paddingRow}
-use Rattle.copy_residues.specs.RowCheck.{rowFault, Fine}
+use Rattle.copy_residues.specs.RowCheck.{rowFault}
+use Rattle.copy_residues.specs.declared.faults.RowFault.the-variants.{Fine}
 use Rattle.copy_meaning.specs.Steps.{LiveStep, DeadStep, RowStep}
 use Rattle.copy_meaning.specs.ReadRow.{opAt}
 use Rattle.copy_meaning.specs.Plain.{Plain}

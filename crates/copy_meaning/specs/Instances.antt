@@ -8,7 +8,10 @@ use Rattle.field.specs.Field.{p}
 use Rattle.call.specs.Calls.{Op}
 use Rattle.copy_row.specs.Columns.{SRC-INCR, MU}
 use Rattle.copy_row.specs.Rows.{rowOf, tableRow, paddingRow}
-use Rattle.copy_residues.specs.RowCheck.{rowFault, RowFault, Fine, NotElement, OutOfRange, NotZero}
+use Rattle.copy_residues.specs.RowCheck.{rowFault}
+use Rattle.copy_residues.specs.declared.faults.RowFault.{RowFault}
+use Rattle.copy_residues.specs.declared.faults.RowFault.the-variants.{Fine, Faulty}
+use Rattle.copy_residues.specs.declared.faults.RowCheckRefusal.the-variants.{NotElement, OutOfRange, NotZero}
 
 -- an operation record of one value byte and seven zeroes
 abbrev pub op : (kind src dst count width first end : ℕ) → Op
@@ -41,17 +44,17 @@ pub record Instances : Type 0 where
   pub dead-wide : dead (op 0 5 0 8 8 0 0) ≡ Fine
   pub dead-narrow : dead (op 0 (2 ^ 64 - 1) (2 ^ 64 - 1) 70 1 0 0) ≡ Fine
   -- src, dst past 2^64 in a live row with a count; another gap; a count below the width; a last row with more to come
-  pub src-wraps : live (op 0 (2 ^ 64 - 8) 0 8 8 1 1) ≡ NotZero 37
-  pub dst-wraps : live (op 0 0 (2 ^ 64 - 8) 8 8 1 1) ≡ NotZero 38
-  pub wrong-gap : live (op 1 100 107 8 8 1 1) ≡ NotZero 20
-  pub too-few : live (op 0 0 16 4 8 1 1) ≡ NotZero 30
-  pub not-last : live (op 0 0 16 9 8 1 1) ≡ NotZero 33
+  pub src-wraps : live (op 0 (2 ^ 64 - 8) 0 8 8 1 1) ≡ Faulty (NotZero 37)
+  pub dst-wraps : live (op 0 0 (2 ^ 64 - 8) 8 8 1 1) ≡ Faulty (NotZero 38)
+  pub wrong-gap : live (op 1 100 107 8 8 1 1) ≡ Faulty (NotZero 20)
+  pub too-few : live (op 0 0 16 4 8 1 1) ≡ Faulty (NotZero 30)
+  pub not-last : live (op 0 0 16 9 8 1 1) ≡ Faulty (NotZero 33)
   -- an empty row that does not open its call, a dead row that is empty, or that has a mark or a kind
-  pub empty-later : live (op 0 0 16 0 1 0 1) ≡ NotZero 29
-  pub dead-empty : dead (op 0 0 16 0 1 0 0) ≡ NotZero 29
-  pub dead-first : dead (op 0 0 16 9 8 1 0) ≡ NotZero 6
-  pub dead-kind : dead (op 2 0 16 9 8 0 0) ≡ NotZero 8
+  pub empty-later : live (op 0 0 16 0 1 0 1) ≡ Faulty (NotZero 29)
+  pub dead-empty : dead (op 0 0 16 0 1 0 0) ≡ Faulty (NotZero 29)
+  pub dead-first : dead (op 0 0 16 9 8 1 0) ≡ Faulty (NotZero 6)
+  pub dead-kind : dead (op 2 0 16 9 8 0 0) ≡ Faulty (NotZero 8)
   -- MU neither 0 nor 1, a half carried as 65,537, and p
-  pub mu-two : rowFault 8 (rowOf 2 (op 0 0 16 9 8 1 0)) ≡ NotZero 3
-  pub half-out : rowFault 8 (set (tableRow (op 0 0 16 9 8 1 0)) SRC-INCR 65537) ≡ OutOfRange
-  pub no-element : rowFault 8 (set (tableRow (op 0 0 16 9 8 1 0)) MU p) ≡ NotElement
+  pub mu-two : rowFault 8 (rowOf 2 (op 0 0 16 9 8 1 0)) ≡ Faulty (NotZero 3)
+  pub half-out : rowFault 8 (set (tableRow (op 0 0 16 9 8 1 0)) SRC-INCR 65537) ≡ Faulty OutOfRange
+  pub no-element : rowFault 8 (set (tableRow (op 0 0 16 9 8 1 0)) MU p) ≡ Faulty NotElement

@@ -11,7 +11,8 @@ use Rattle.copy_row.specs.Columns.{DST-RES, FIRST, MU, COLUMNS}
 use Rattle.copy_row.specs.Rows.{rowOf, tableRow}
 use Rattle.copy_residues.specs.Range.{columnLimits}
 use Rattle.copy_residues.specs.Residues.{residue, RESIDUES}
-use Rattle.copy_residues.specs.RowCheck.{rowFault, Fine}
+use Rattle.copy_residues.specs.RowCheck.{rowFault}
+use Rattle.copy_residues.specs.declared.faults.RowFault.the-variants.{Fine}
 use Rattle.copy_meaning.specs.Steps.{RowStep}
 use Rattle.copy_meaning.specs.ReadRow.{opAt}
 

@@ -8,7 +8,8 @@ use Rattle.call.specs.Calls.{Op}
 use Rattle.call.specs.Cuts.{FitsTypes, PieceOk}
 use Rattle.copy_row.specs.Columns.{COLUMNS}
 use Rattle.copy_row.specs.Rows.{wrapped, rowOf, tableRow, paddingRow}
-use Rattle.copy_residues.specs.RowCheck.{rowFault, Fine}
+use Rattle.copy_residues.specs.RowCheck.{rowFault}
+use Rattle.copy_residues.specs.declared.faults.RowFault.the-variants.{Fine}
 use Rattle.copy_meaning.specs.Steps.{LiveStep}
 use Rattle.copy_meaning.specs.ReadRow.{opAt, nextAt}
 use Rattle.copy_meaning.specs.Plain.{Plain}

@@ -10,19 +10,21 @@ use Rattle.field.specs.Rows.{firstLarge}
 use Rattle.copy_row.specs.Columns.{COLUMNS}
 use Rattle.copy_residues.specs.Range.{firstOut}
 use Rattle.copy_residues.specs.Residues.{RESIDUES}
-use Rattle.copy_residues.specs.RowCheck.{firstResidue, rowFault, Fine, NotElement, OutOfRange, NotZero}
+use Rattle.copy_residues.specs.RowCheck.{firstResidue, rowFault}
+use Rattle.copy_residues.specs.declared.faults.RowFault.the-variants.{Fine, Faulty}
+use Rattle.copy_residues.specs.declared.faults.RowCheckRefusal.the-variants.{NotElement, OutOfRange, NotZero}
 
 module _ (gap : ℕ) (row : List ℕ) (wide : length row ≡ COLUMNS) where
-  pub not-element : firstLarge row < COLUMNS → rowFault gap row ≡ NotElement
+  pub not-element : firstLarge row < COLUMNS → rowFault gap row ≡ Faulty NotElement
   unfolding rowFault
   not-element h = rw (lt-ltb (firstLarge row) (length row) (omega arith))
 
-  pub out-of-range : COLUMNS ≤ firstLarge row → firstOut row < COLUMNS → rowFault gap row ≡ OutOfRange
+  pub out-of-range : COLUMNS ≤ firstLarge row → firstOut row < COLUMNS → rowFault gap row ≡ Faulty OutOfRange
   unfolding rowFault
   out-of-range h k = rw (le-ltb (firstLarge row) (length row) (omega arith), lt-ltb (firstOut row) COLUMNS k)
 
   pub not-zero : COLUMNS ≤ firstLarge row → COLUMNS ≤ firstOut row → firstResidue gap row < RESIDUES
-      → rowFault gap row ≡ NotZero (firstResidue gap row)
+      → rowFault gap row ≡ Faulty (NotZero (firstResidue gap row))
   unfolding rowFault
   not-zero h k l =
       rw (le-ltb (firstLarge row) (length row) (omega arith), le-ltb (firstOut row) COLUMNS k, lt-ltb (firstResidue gap row) RESIDUES l)

@@ -9,13 +9,9 @@ use Rattle.field.specs.Rows.{firstLarge}
 use Rattle.copy_row.specs.Columns.{COLUMNS}
 use Rattle.copy_residues.specs.Range.{firstOut}
 use Rattle.copy_residues.specs.Residues.{residue, RESIDUES}
-
--- nothing, or the first check that fails: 14, a number not below p; 15, a column out of range; 16, a residue not 0, with its number
-pub data RowFault : Type 0 where
-  Fine : RowFault
-  NotElement : RowFault
-  OutOfRange : RowFault
-  NotZero : ℕ → RowFault
+use Rattle.copy_residues.specs.declared.faults.RowFault.{RowFault}
+use Rattle.copy_residues.specs.declared.faults.RowFault.the-variants.{Fine, Faulty}
+use Rattle.copy_residues.specs.declared.faults.RowCheckRefusal.the-variants.{NotElement, OutOfRange, NotZero}
 
 -- the lowest index of a residue that is not 0, or 40
 unfoldable pub firstResidue : ℕ → List ℕ → ℕ
@@ -24,6 +20,6 @@ firstResidue gap row = first (λ i. not (eqb (residue gap row i) 0)) 0 RESIDUES
 -- the first check that fails on a row: all 41 numbers are judged by 14 before any is judged by 15
 unfoldable pub rowFault : ℕ → List ℕ → RowFault
 rowFault gap row =
-    cond (ltb (firstLarge row) (length row)) NotElement
-    (cond (ltb (firstOut row) COLUMNS) OutOfRange
-    (cond (ltb (firstResidue gap row) RESIDUES) (NotZero (firstResidue gap row)) Fine))
+    cond (ltb (firstLarge row) (length row)) (Faulty NotElement)
+    (cond (ltb (firstOut row) COLUMNS) (Faulty OutOfRange)
+    (cond (ltb (firstResidue gap row) RESIDUES) (Faulty (NotZero (firstResidue gap row))) Fine))

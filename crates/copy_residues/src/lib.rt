@@ -3,6 +3,7 @@
 pub mod carries;
 mod cells;
 mod equations;
+pub mod faults;
 pub mod parts;
 pub mod range;
 pub mod residues;

@@ -18,6 +18,7 @@ ghost use Rattle.access.specs.declared.AccessTable.the-variants.{General, Align
 ghost use Rattle.copy_residues.specs.Answers.{residueAnswer, residueNumbers};
 ghost use Rattle.add_pair.specs.Answers.{AddPairDone};
 ghost use Rattle.memw_residues.specs.Answers.{memwResidueAnswer, memwResidueNumbers};
+ghost use Rattle.row_check.specs.RowAnswer.{rowAnswer, rowNumbers};
 ghost use Rattle.chain.specs.Chain.{chainAnswer, chainNumbers};
 ghost use Rattle.exports.specs.Exports.{FlatRouted, FlatRead};
 
@@ -107,6 +108,14 @@ pub extern "C" fn memw_register_residue(row: &[u64], number: u64) -> Answer
     ensures answer { λ r. ⌜ r ≡ memwResidueNumbers (memwResidueAnswer Register (now (row .entry)) number) ⌝ }
 {
     memw_residues::memw_residue_numbers(memw_residues::memw_register_residue(row, number))
+}
+
+// The row check of one copy row, with no neighbours, or 7, 13, 14, 15, 16; the value is 0.
+#[no_mangle]
+pub extern "C" fn row_check(gap: u64, row: &[u64]) -> Answer
+    ensures answer { λ r. ⌜ r ≡ rowNumbers (rowAnswer gap (now (row .entry))) ⌝ }
+{
+    row_check::row_numbers(row_check::row_check(gap, row))
 }
 
 // The chain check: how many rows passed, or 7, 13, then row by row 14 to 17, then 18.

@@ -1,6 +1,6 @@
-// Replays recorded questions on the chain check and read-back through the exported functions. A question is the function's number and its
-// parameters, a list as its length and its numbers; the answer's three numbers are printed, then each lent list afterwards. The file
-// stdout has the oracle's answers.
+// Replays recorded questions on the chain check, read-back and the row check through the exported functions. A question is the function's
+// number and its parameters, a list as its length and its numbers; the answer's three numbers are printed, then each lent list afterwards.
+// The file stdout has the oracle's answers.
 use answer::Answer;
 ghost use lib.ListN.{length};
 ghost use Prim.Native.Nat.{_≤_, _<_};
@@ -77,7 +77,23 @@ fn ask_read(numbers: &[u64], at: usize) -> usize
     counts_end
 }
 
-// One question: 0 chain_check, 1 read_back.
+// row_check: the gap, the row.
+fn ask_row(numbers: &[u64], at: usize) -> usize
+    requires { ⌜ at < length (now numbers) ⌝ }
+    ensures { λ r. ⌜ (at < r) × (r ≤ length (now (numbers .entry))) ⌝ }
+{
+    let gap = numbers[at];
+    let row = at + 1;
+    if numbers.len() <= row {
+        return numbers.len();
+    }
+    let row_end = replay::after_list(numbers, row);
+    let answer: Answer = exports::row_check(gap, &numbers[row + 1..row_end]);
+    replay::print_answer(answer);
+    row_end
+}
+
+// One question: 0 chain_check, 1 read_back, 2 row_check.
 fn ask(numbers: &[u64], at: usize) -> usize
     requires { ⌜ at < length (now numbers) ⌝ }
     ensures { λ r. ⌜ (at < r) × (r ≤ length (now (numbers .entry))) ⌝ }
@@ -89,7 +105,10 @@ fn ask(numbers: &[u64], at: usize) -> usize
     if function == 0 {
         return ask_check(numbers, at + 1);
     }
-    ask_read(numbers, at + 1)
+    if function == 1 {
+        return ask_read(numbers, at + 1);
+    }
+    ask_row(numbers, at + 1)
 }
 
 fn ask_all(numbers: &[u64]) {
@@ -102,7 +121,7 @@ fn ask_all(numbers: &[u64]) {
 fn main() {
     let mut text = io::large_buffer();
     let n = io::read_full(0, &mut text);
-    let mut numbers = [0u64; 8192];
+    let mut numbers = [0u64; 16384];
     let k = replay::numbers_of(&text[..n], &mut numbers);
     ask_all(&numbers[..k]);
 }

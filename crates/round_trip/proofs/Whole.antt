@@ -35,7 +35,7 @@ use Rattle.calls_in_turn.specs.Counts.{allRecords, allCalls}
 use Rattle.calls_in_turn.proofs.Counted.{records-counted, calls-counted}
 use Rattle.calls_in_turn.proofs.Typed.{calls-words, tries-typed}
 use Rattle.whole_calls.specs.Demand.{Passes, ReadsBack}
-use Rattle.whole_calls.proofs.Whole.{steps}
+use Rattle.whole_calls.proofs.LiveRows.{steps}
 use Rattle.whole_calls.proofs.GoodRecords.{records-wide, maker-answer}
 use Rattle.whole_calls.proofs.Accepted.{cutTry, tries-fit, tries-wrote}
 use Rattle.whole_calls.proofs.Demand.{demand3}

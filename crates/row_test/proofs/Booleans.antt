@@ -28,3 +28,7 @@ _and_ {s} {t} f g = and-iff s t f (λ p. g)
 pub or-iff : (s t : Bool) {Q : Type 0} → (s ≡ true → Q) → (s ≡ false → (t ≡ true) ↔ Q) → (s || t ≡ true) ↔ Q
 or-iff true t f g = (λ e. f refl, λ q. refl)
 or-iff false t f g = g refl
+
+-- a test that failed, of a fact that Q needs
+pub failed : {s : Bool} {P Q : Type 0} → (s ≡ true) ↔ P → s ≡ false → (Q → P) → (false ≡ true) ↔ Q
+failed test e needed = (λ h. absurd (false≢true h), λ q. absurd (false≢true (sym e ∙ test .1 (needed q))))

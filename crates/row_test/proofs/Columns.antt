@@ -13,7 +13,8 @@ use Rattle.lists.specs.Lists.{first, at}
 use Rattle.lists.proofs.First.{first-none}
 use Rattle.copy_row.specs.Columns.{VALUE, SRC, FIRST, SINGLE, COLUMNS}
 use Rattle.copy_residues.specs.Range.{columnLimits}
-use Rattle.copy_residues.specs.RowCheck.{rowFault, Fine}
+use Rattle.copy_residues.specs.RowCheck.{rowFault}
+use Rattle.copy_residues.specs.declared.faults.RowFault.the-variants.{Fine}
 use Rattle.copy_meaning.specs.Plain.{TailAt}
 use Rattle.copy_meaning.specs.RowIff.{InRange}
 use Rattle.copy_meaning.proofs.Columns.{columns-of}

@@ -1,4 +1,4 @@
-// Internal to the workspace, not open to callers: whether a copy row is right, on plain numbers. The chain check asks this first; the
+// Internal to the workspace, not open to callers: whether a copy row is right, on plain numbers. The row check asks this first; the
 // residues of a row by their numbers are worked out only where it answers false. Assumes nothing but what each `requires` says.
 ghost use mathlib.Core.Path.{_≡_};
 ghost use mathlib.Core.Bool.{true};
@@ -7,7 +7,8 @@ ghost use Prim.Native.Nat.{_+_, _^_, _<_};
 ghost use lib.ListN.{length};
 ghost use Rattle.lists.specs.Lists.{at};
 ghost use Rattle.copy_row.specs.Columns.{COUNT, SINGLE, COLUMNS};
-ghost use Rattle.copy_residues.specs.RowCheck.{rowFault, Fine};
+ghost use Rattle.copy_residues.specs.RowCheck.{rowFault};
+ghost use Rattle.copy_residues.specs.declared.faults.RowFault.the-variants.{Fine};
 ghost use Rattle.copy_meaning.specs.ReadRow.{wordsAt, halvesAt};
 ghost use Rattle.copy_meaning.specs.Inner.{TwoWords, FourHalves};
 ghost use Rattle.copy_meaning.specs.Plain.{FlagsAt, MovesAt, CountsAt, ResultAt, GapAt, TailAt};
@@ -128,20 +129,20 @@ fn gapped_at(gap: u64, row: &[u64]) -> bool
     tests::gapped(gap, row[cols::IS_SET], src, dst)
 }
 
-// The sums, bits and conditions of a row whose columns fit.
+// The sums, bits and conditions of a row whose columns fit. Left early, so that fewer of the 41 numbers are wanted at a time.
 fn tests_hold(gap: u64, row: &[u64]) -> bool
     requires { ⌜ (gap < 2 ^ 32) × (length (now row) ≡ COLUMNS) ⌝ }
     requires { ⌜ Caps (now row) ⌝ }
     ensures { λ r. ⌜ ((r ≡ true) ↔ (rowFault gap (now (row .entry)) ≡ Fine)) ⌝ }
 {
     let count = words_at(row, cols::COUNT_0);
-    flags_at(row, count)
-        & moves_at(row, cols::SRC_0, count)
-        & moves_at(row, cols::DST_0, count)
-        & counts_at(row, count)
-        & results_at(row, count)
-        & gapped_at(gap, row)
-        & tail(row)
+    if !(flags_at(row, count) & tail(row)) {
+        return false;
+    }
+    if !(moves_at(row, cols::SRC_0, count) & moves_at(row, cols::DST_0, count)) {
+        return false;
+    }
+    counts_at(row, count) & results_at(row, count) & gapped_at(gap, row)
 }
 
 // Whether the row check finds nothing: 14, 15 and the 40 residues, without working out a residue.

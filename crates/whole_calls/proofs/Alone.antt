@@ -17,12 +17,12 @@ use Rattle.copy_row.specs.Columns.{VALUE, SRC, SRC-INCR}
 use Rattle.copy_row.specs.Rows.{rowOf, tableRow}
 use Rattle.copy_meaning.specs.ReadRow.{wordsAt, halvesAt, callAt, opAt}
 use Rattle.copy_meaning.specs.RowIff.{CallRow}
+use Rattle.copy_meaning.proofs.DstRes.{call-row}
 use Rattle.copy_meaning.proofs.ReadBack.{src-modulo, end-back, call-back, src-incr-back}
 use Rattle.call_chain.specs.OpChain.{group}
 use Rattle.chain.specs.Chain.{tableRows}
 use Rattle.read_back.specs.ReadBack.{liveRows}
 use Rattle.whole_calls.specs.Demand.{Each, WholeCalls, AnyPiece, AnyCall}
-use Rattle.whole_calls.proofs.Whole.{rows-are}
 
 -- the piece of a row, its width from SRC and SRC_INCR
 pieceAt : List ℕ → Piece
@@ -92,6 +92,13 @@ any-calls gap (k ∷ ks) fits = (
 map-read : (os : List Op) → map anyAt (map tableRow os) ≡ map readRow os
 map-read [] = refl
 map-read (o ∷ os) = ap (λ t. readRow o ∷ t) (map-read os)
+
+-- the rows of any calls are their table rows
+rows-are : (gap : ℕ) (os : List Op) (rows : List (List ℕ)) → Each (CallRow gap) os rows → rows ≡ map tableRow os
+rows-are gap [] [] each = refl
+rows-are gap [] (row ∷ rows) each = absurd each
+rows-are gap (o ∷ os) [] each = absurd each
+rows-are gap (o ∷ os) (row ∷ rows) each = λ i. call-row gap o row (each .0) i ∷ rows-are gap os rows (each .1) i
 
 pub alone : (gap : ℕ) (l : List ℕ) (ks : List CutCall) → WholeCalls gap l ks → (js : List CutCall) → All AnyCall js
     → Each (CallRow gap) (opsOf js) (liveRows (tableRows l)) → js ≡ ks

@@ -1,7 +1,7 @@
 -- Demand 3 holds. Assumes nothing.
 use mathlib.Core.Path.{_≡_, sym, subst₂}
 use mathlib.Core.List.{List, map, flatMap}
-use Prim.Native.Nat.{ℕ, _*_, _/_, _^_, _≤_, _<_}
+use Prim.Native.Nat.{ℕ, _*_, _^_, _≤_, _<_}
 use lib.Dec.{lit≤}
 use lib.ListN.{length, take}
 use Rattle.lists.specs.Lists.{All}
@@ -14,22 +14,13 @@ use Rattle.expansion.specs.Tries.{Try, Typed, under}
 use Rattle.calls_in_turn.specs.Accepted.{acceptedOps, acceptedCalls, acceptedOf}
 use Rattle.copy_row.specs.Columns.{COLUMNS}
 use Rattle.copy_row.specs.Trace.{copyAnswer, copyAfter}
-use Rattle.chain.specs.Chain.{chainAnswer}
-use Rattle.chain.specs.declared.ChainAnswer.the-variants.{Passed}
-use Rattle.chain.proofs.Passed.{passing}
 use Rattle.whole_calls.specs.Demand.{Passes, ReadsBack, Demand3}
-use Rattle.whole_calls.proofs.Whole.{passes-calls, calls-pass, calls-passes}
+use Rattle.whole_calls.proofs.Halves.{chain-property, counts, calls-passes}
 use Rattle.whole_calls.proofs.ReadBack.{reads-back, only-nine}
 use Rattle.whole_calls.proofs.Alone.{alone}
 use Rattle.whole_calls.proofs.Made.{written-calls}
 use Rattle.whole_calls.proofs.Accepted.{cutTry, tries-fit, tries-wrote, tries-handed}
 use Rattle.whole_calls.proofs.Refusals.{maker-refuses, refused-leaves, refused-adds}
-
-counts : (gap : ℕ) (l : List ℕ) → Passes gap l → chainAnswer gap l ≡ Passed (length l / COLUMNS)
-counts gap l e =
-    let g = passing gap l e .small in
-    let w = passes-calls gap g l e in
-    calls-pass gap g l (w .0) (w .1)
 
 -- the rows that the maker writes of the records of calls that fit pass, and are read back as these records and calls
 pub made-passes : (gap : ℕ) → gap < 2 ^ 32 → (limit : ℕ) → limit ≤ 2 ^ 63 → (ks : List CutCall) → All (Fits gap) ks
@@ -60,7 +51,7 @@ made gap g tries typed table rows =
 pub demand3 : Demand3
 demand3 =
     record {
-      exactly = λ gap g l. (passes-calls gap g l, λ w. calls-passes gap g l (w .0) (w .1));
+      exactly = chain-property;
       counts = counts;
       reads = λ gap g l ks w ops calls. reads-back gap g l ks w ops calls;
       alone = alone;

@@ -13,7 +13,7 @@ use Rattle.read_back.proofs.Computing as judged
 use Rattle.calls_in_turn.proofs.Computing as made
 use Rattle.whole_calls.specs.Demand.{WholeCalls, AnyCall}
 use Rattle.whole_calls.specs.Instances.{threeKinds, deadNotPadding, rows, unsound, threeTries, Instances}
-use Rattle.whole_calls.proofs.Whole.{dead-row, whole-calls}
+use Rattle.whole_calls.proofs.Halves.{dead-row, whole-calls}
 use Rattle.whole_calls.proofs.Alone.{any-calls}
 
 wide-ok : (byte : ℕ) → byte < 256 → PieceOk (wide byte)
@@ -56,7 +56,7 @@ unsound-any =
 
 rows-whole : WholeCalls 8 rows threeKinds
 unfolding judged.computing
-rows-whole = whole-calls 8 (omega arith) rows refl threeKinds three-fit (deadNotPadding ∷ []) (dead-row 8 deadNotPadding refl refl, tt) refl
+rows-whole = whole-calls 8 (omega arith) rows refl threeKinds three-fit (deadNotPadding ∷ []) (dead-row 8 (omega arith) deadNotPadding refl refl refl, tt) refl
 
 tries-typed : All Typed threeTries
 tries-typed = (

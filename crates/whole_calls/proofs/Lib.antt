@@ -1,5 +1,8 @@
-pub mod Verdict
-pub mod Whole
+pub mod LiveRows
+pub mod BothHalves
+pub mod LinkHalf
+pub mod FromHalves
+pub mod Halves
 pub mod ReadBack
 pub mod Alone
 pub mod GoodRecords
@@ -8,3 +11,4 @@ pub mod Accepted
 pub mod Refusals
 pub mod Demand
 pub mod Instances
+pub mod LinkInstances

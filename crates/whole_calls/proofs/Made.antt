@@ -34,7 +34,8 @@ use Rattle.copy_meaning.proofs.RowIff.{padding-passes}
 use Rattle.call_chain.proofs.Chained.{chain}
 use Rattle.chain.specs.Chain.{tableRows}
 use Rattle.whole_calls.specs.Demand.{DeadRow, WholeCalls}
-use Rattle.whole_calls.proofs.Whole.{steps, dead-row, whole-calls}
+use Rattle.whole_calls.proofs.LiveRows.{steps}
+use Rattle.whole_calls.proofs.Halves.{dead-row, whole-calls}
 use Rattle.whole_calls.proofs.GoodRecords.{records-wide, records-count}
 
 -- Rows of the table
@@ -90,7 +91,7 @@ module _ (gap : ℕ) where
 
 padding-dead : (gap : ℕ) → gap < 2 ^ 32 → (n : ℕ) → All (DeadRow gap) (replicate n paddingRow)
 unfolding paddingRow
-padding-dead gap g n = all-replicate (DeadRow gap) n paddingRow (dead-row gap paddingRow refl (padding-passes gap g))
+padding-dead gap g n = all-replicate (DeadRow gap) n paddingRow (dead-row gap g paddingRow refl (padding-passes gap g) refl)
 
 -- The rows written: the maker takes `limit` records, and answers `Made rows`
 

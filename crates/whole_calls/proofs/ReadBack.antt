@@ -32,7 +32,8 @@ use Rattle.read_back.specs.declared.ReadBackAnswer.the-variants.{Read, BufferSh
 use Rattle.read_back.specs.Inner.{rowsRead, numbersRead}
 use Rattle.read_back.proofs.Walk.{numbers-length}
 use Rattle.whole_calls.specs.Demand.{Passes, WholeCalls, ReadsBack}
-use Rattle.whole_calls.proofs.Whole.{steps, Still, all-still, calls-rows, calls-pass, live-rows}
+use Rattle.whole_calls.proofs.LiveRows.{steps, Still, live-rows}
+use Rattle.whole_calls.proofs.Halves.{all-still, calls-rows, calls-pass}
 
 -- what is read of rows that were made of records, dead rows behind them
 module _ (gap : ℕ) where
@@ -66,7 +67,7 @@ module _ (gap : ℕ) (g : gap < 2 ^ 32) (l : List ℕ) (ks : List CutCall) (w : 
   live = steps gap none (opsOf ks) (chain gap ks (w .sound))
 
   still : All Still (w .others)
-  still = all-still gap (w .others) (w .dead)
+  still = all-still gap g (w .others) (w .dead)
 
   pub read-ops : readOps l ≡ flatMap opRecord (opsOf ks)
   unfolding readOps

@@ -25,7 +25,7 @@ use Rattle.copy_row.specs.Trace.{copyAnswer}
 use Rattle.copy_meaning.specs.Steps.{LiveStep}
 use Rattle.call_chain.proofs.Chained.{chain}
 use Rattle.calls_in_turn.specs.Accepted.{acceptedOf, acceptedOps}
-use Rattle.whole_calls.proofs.Whole.{steps}
+use Rattle.whole_calls.proofs.LiveRows.{steps}
 use Rattle.whole_calls.proofs.GoodRecords.{maker-answer}
 use Rattle.whole_calls.proofs.Accepted.{cutTry, tries-fit, tries-wrote}
 

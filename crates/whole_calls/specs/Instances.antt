@@ -17,10 +17,12 @@ use Rattle.expansion.specs.Refusals.{answered}
 use Rattle.copy_row.specs.Columns.{SRC, SRC-INCR, DST-INCR, MU-COM-WIDE, COLUMNS}
 use Rattle.copy_row.specs.Rows.{tableRow, paddingRow}
 use Rattle.copy_row.specs.Trace.{copyAnswer, copyAfter}
+use Rattle.copy_residues.specs.declared.faults.RowCheckRefusal.the-variants.{NotElement, OutOfRange, NotZero}
 use Rattle.copy_meaning.specs.RowIff.{CallRow}
 use Rattle.chain.specs.Chain.{tableRows, chainAnswer}
 use Rattle.chain.specs.declared.ChainAnswer.the-variants.{Passed, Refused}
-use Rattle.chain.specs.declared.ChainRefusal.the-variants.{GapTooLarge, NotRows, BadElement, BadRange, BadResidue, LinkBroken, NotEnded}
+use Rattle.chain.specs.declared.ChainRefusal.the-variants.{GapTooLarge, NotRows, Row, Link}
+use Rattle.chain.specs.declared.LinkRefusal.the-variants.{Broken, NotEnded}
 use Rattle.read_back.specs.ReadBack.{liveRows, readOps, readCalls, readBackAnswer}
 use Rattle.read_back.specs.declared.ReadBackAnswer.the-variants.{Read, BufferShort}
 use Rattle.calls_in_turn.specs.Accepted.{acceptedOf, acceptedOps}
@@ -95,12 +97,12 @@ pub record Instances : Type 0 where
   -- row out of its order, a live row after a dead one, a call cut off
   pub refused-7 : chainAnswer (2 ^ 32) rows ≡ Refused GapTooLarge
   pub refused-13 : chainAnswer 8 (rows ++ (0 ∷ [])) ≡ Refused NotRows
-  pub refused-14 : chainAnswer 8 (spoiled 4 MU-COM-WIDE p) ≡ Refused (BadElement 4)
-  pub refused-15 : chainAnswer 8 (spoiled 3 SRC-INCR 65537) ≡ Refused (BadRange 3)
-  pub refused-16 : chainAnswer 8 (spoiled 1 DST-INCR 26) ≡ Refused (BadResidue 1 12)
-  pub refused-17 : chainAnswer 8 (row 1 ++ row 0) ≡ Refused (LinkBroken 0)
-  pub refused-17-late : chainAnswer 8 (deadNotPadding ++ row 2) ≡ Refused (LinkBroken 1)
-  pub refused-18 : chainAnswer 8 (row 0) ≡ Refused (NotEnded 1)
+  pub refused-14 : chainAnswer 8 (spoiled 4 MU-COM-WIDE p) ≡ Refused (Row 4 NotElement)
+  pub refused-15 : chainAnswer 8 (spoiled 3 SRC-INCR 65537) ≡ Refused (Row 3 OutOfRange)
+  pub refused-16 : chainAnswer 8 (spoiled 1 DST-INCR 26) ≡ Refused (Row 1 (NotZero 12))
+  pub refused-17 : chainAnswer 8 (row 1 ++ row 0) ≡ Refused (Link 0 Broken)
+  pub refused-17-late : chainAnswer 8 (deadNotPadding ++ row 2) ≡ Refused (Link 1 Broken)
+  pub refused-18 : chainAnswer 8 (row 0) ≡ Refused (Link 1 NotEnded)
   -- expanded in turn: the Set is refused with 3, and the table of the other two has four rows that pass
   pub typed : All Typed threeTries
   pub set-refused : answered (under 8) setTry .number ≡ 3

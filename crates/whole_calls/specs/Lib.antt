@@ -1,2 +1,4 @@
 pub mod Demand
+pub mod Halves
 pub mod Instances
+pub mod LinkInstances

@@ -1,4 +1,5 @@
-//! Chain check and read-back on sound lists, against a good one-pass check in Rust.
+//! Chain check and read-back on sound lists and the row check on their rows, against a
+//! good one-pass check in Rust.
 
 use super::{Report, SIZES, Times, answered, one_pass, race_two};
 use crate::exported;
@@ -7,12 +8,16 @@ use crate::oracle::{self, Answer, COPY_COLUMNS};
 use crate::protocol::{Argument, Question};
 use crate::rng::Rng;
 use crate::sound::{self, Call, CutCall, Piece};
+use original::tables::copy::cols;
 use std::hint::black_box;
 
 const GAP: u64 = 8;
 
-/// Rows on which all residues are walked.
-const WALKED: usize = 256;
+/// Rows that are checked one by one.
+const ROWS: usize = 256;
+
+/// A check of a row alone, or of a list of one row.
+type Check = fn(u64, &[u64]) -> Answer;
 
 pub fn run(report: &mut Report) {
     let lists = SIZES.map(sound_list);
@@ -22,8 +27,16 @@ pub fn run(report: &mut Report) {
             "one-pass Rust",
             lists.each_ref().map(|list| check(list)),
         );
+        let sides = [exported::chain_check, one_pass::chain_check];
         let what = "chain_check, a row of which only residue 39 is not 0";
-        report.call(what, "one-pass Rust", walk(&walked_rows()));
+        report.call(what, "one-pass Rust", walk(sides));
+    }
+    if report.wants("row_check") {
+        let sides = [exported::row_check, one_pass::row_check];
+        let times = one_by_one(sides, &live_rows(&lists[0]), answered(0));
+        report.call("row_check, a sound row", "one-pass Rust", times);
+        let what = "row_check, a row of which only residue 39 is not 0";
+        report.call(what, "one-pass Rust", walk(sides));
     }
     if report.wants("read_back") {
         let times = lists.each_ref().map(|list| read_back(list));
@@ -48,35 +61,52 @@ fn check(list: &[u64]) -> Times {
     times
 }
 
-/// Lists of one row each, on which nothing but the last residue is amiss: here the proved
-/// code walks all residues by number after its quick test.
-fn walk(rows: &[(u64, Vec<u64>)]) -> Times {
-    let rows = black_box(rows);
+/// A call for each row, which has this answer.
+fn one_by_one(sides: [Check; 2], rows: &[(u64, Vec<u64>)], expected: Answer) -> Times {
+    let (sides, rows) = black_box((sides, rows));
     let mut answers = [(); 2].map(|()| vec![answered(0); rows.len()]);
     let [ours, rust] = &mut answers;
-    let turn = |check: fn(u64, &[u64]) -> Answer, answers: &mut [Answer]| {
+    let turn = |check: Check, answers: &mut [Answer]| {
         for ((gap, row), answer) in rows.iter().zip(answers) {
             *answer = black_box(check(*gap, row));
         }
     };
-    let times = race_two(
-        rows.len(),
-        &mut || turn(exported::chain_check, ours),
-        &mut || turn(one_pass::chain_check, rust),
-    );
-    let last = |answer: &Answer| (answer.number, answer.value) == (16, 39);
+    let times = race_two(rows.len(), &mut || turn(sides[0], ours), &mut || {
+        turn(sides[1], rust)
+    });
+    let mut all = answers.iter().flatten();
     assert!(
-        answers[0] == answers[1] && answers[0].iter().all(last),
-        "chain check: answers differ"
+        all.all(|answer| *answer == expected),
+        "checks of one row: not {expected:?} throughout"
     );
     times
+}
+
+/// Rows of which nothing but the last residue is amiss: here the proved code walks all
+/// residues by number after its quick test.
+fn walk(sides: [Check; 2]) -> Times {
+    let expected = Answer {
+        number: 16,
+        value: 39,
+        ..answered(0)
+    };
+    one_by_one(sides, &walked_rows(), expected)
+}
+
+/// Live rows of a sound list, no two alike.
+fn live_rows(list: &[u64]) -> Vec<(u64, Vec<u64>)> {
+    let rows = list.chunks(COPY_COLUMNS);
+    let live = rows.filter(|row| row[cols::MU] == 1).step_by(3);
+    let found: Vec<_> = live.take(ROWS).map(|row| (GAP, row.to_vec())).collect();
+    assert_eq!(found.len(), ROWS, "live rows of a sound list");
+    found
 }
 
 /// Rows that the chain check's questions have and that fail by residue 39 first.
 fn walked_rows() -> Vec<(u64, Vec<u64>)> {
     let mut generator = Generator::new("chain_check", 1).expect("a kind");
     let mut found = Vec::new();
-    while found.len() < WALKED {
+    while found.len() < ROWS {
         let question = generator.question();
         found.extend(row_of(&question));
     }

@@ -1,7 +1,7 @@
-//! A good chain check and read-back in plain Rust, to measure against: one pass over
-//! the rows; the ranges by an OR over the columns of a width; all residues at once in
-//! the field, with what several share computed once; no allocation. The self-test holds
-//! it against the oracle.
+//! A good chain check, row check and read-back in plain Rust, to measure against: one
+//! pass over the rows; the ranges by an OR over the columns of a width; all residues at
+//! once in the field, with what several share computed once; no allocation. The self-test
+//! holds it against the oracle.
 
 use super::answered;
 use super::goldilocks::{INV_SHIFT_32, add, mul, sub};
@@ -25,6 +25,18 @@ pub fn chain_check(gap: u64, rows: &[u64]) -> Answer {
     match check(gap, rows) {
         Ok(_) => answered(rows.len() / COPY_COLUMNS),
         Err(refusal) => refusal,
+    }
+}
+
+#[inline(never)]
+pub fn row_check(gap: u64, row: &[u64]) -> Answer {
+    if gap >= GAP_LIMIT {
+        return refused(7, 0);
+    }
+    match row.try_into() {
+        Ok(row) if passes(gap, row) => answered(0),
+        Ok(row) => fault(gap, row),
+        Err(_) => refused(13, 0),
     }
 }
 
@@ -78,8 +90,12 @@ fn check(gap: u64, rows: &[u64]) -> Result<Counts, Answer> {
     let mut counts = Counts::default();
     let mut before: Option<&Row> = None;
     for (place, row) in rows.iter().enumerate() {
-        if !is_in_range(row) || residues(gap, row).iter().fold(0, |all, r| all | r) != 0 {
-            return Err(fault(gap, row, place));
+        if !passes(gap, row) {
+            let place = place as u64;
+            return Err(Answer {
+                place,
+                ..fault(gap, row)
+            });
         }
         if !is_linked(before, row) {
             return Err(refused(17, place));
@@ -94,20 +110,26 @@ fn check(gap: u64, rows: &[u64]) -> Result<Counts, Answer> {
     }
 }
 
-/// 14, 15 or 16 of a row that meets one of them.
+/// Whether a row meets none of 14, 15 and 16.
+#[inline(always)]
+fn passes(gap: u64, row: &Row) -> bool {
+    is_in_range(row) && residues(gap, row).iter().fold(0, |all, r| all | r) == 0
+}
+
+/// 14, 15 or 16 of a row that meets one of them, with the place that a row alone has.
 #[cold]
 #[inline(never)]
-fn fault(gap: u64, row: &Row, place: usize) -> Answer {
-    if row.iter().any(|&number| number >= PRIME) {
+fn fault(gap: u64, row: &Row) -> Answer {
+    if let Some(place) = row.iter().position(|&number| number >= PRIME) {
         return refused(14, place);
     }
     if !is_in_range(row) {
-        return refused(15, place);
+        return refused(15, 0);
     }
     let index = residues(gap, row).iter().position(|&residue| residue != 0);
     Answer {
         value: index.expect("a residue that is not 0") as u64,
-        ..refused(16, place)
+        ..refused(16, 0)
     }
 }
 

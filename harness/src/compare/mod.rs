@@ -30,7 +30,7 @@ const SAVED_NUMBERS: usize = 100_000;
 const BATCH: u64 = 16;
 /// A function is asked past its share of the time until all has occurred that should, or
 /// until it has been asked so often.
-const PATIENCE: u64 = 5_000;
+const PATIENCE: u64 = 20_000;
 /// The program, unless MINJOLF_CALLCHECK names another; seen from the repository's root.
 const CALLCHECK: &str = "target/bin/callcheck";
 

@@ -1,13 +1,17 @@
 //! What one function's run has seen, and what it should have.
 
 use crate::generate::long::EDGES;
-use crate::oracle::LIST_LIMIT;
 use crate::oracle::records::{ACCESS, OPERATION, REGISTER};
+use crate::oracle::{COPY_COLUMNS, LIST_LIMIT};
 use crate::protocol::{Argument, FUNCTIONS, Question, Reply};
 use std::fmt::Write as _;
 
 /// A list of more records than this is a long one.
 const SHORT: usize = 1000;
+
+/// The residue that is 0 in every row in range whose residues 14 and 15 are 0: the
+/// refusal 16 never names it.
+const NEVER_NAMED: usize = 31;
 
 pub struct Tally {
     name: &'static str,
@@ -17,6 +21,8 @@ pub struct Tally {
     answers: [u64; 19],
     /// Of the refusals 16, by residue.
     residues: [u64; 40],
+    /// Of the row check's refusals 14, by place.
+    places: [u64; COPY_COLUMNS],
     /// Rows that were asked for all their residues, beside the one in the question.
     pub whole_rows: u64,
     /// Calls that found a window or a state just as our call before had left it.
@@ -36,6 +42,7 @@ impl Tally {
             mismatches: 0,
             answers: [0; 19],
             residues: [0; 40],
+            places: [0; COPY_COLUMNS],
             whole_rows: 0,
             in_turn: 0,
             edges: [0; 3],
@@ -54,6 +61,9 @@ impl Tally {
         self.answers[number as usize] += 1;
         if number == 16 {
             self.residues[reply.answer.value as usize] += 1;
+        }
+        if number == 14 && self.name == "row_check" {
+            self.places[reply.answer.place as usize] += 1;
         }
         let Some(length) = length(question) else {
             return;
@@ -95,7 +105,21 @@ impl Tally {
                 "{name}: no call of a whole window of {LIST_LIMIT} cells"
             ));
         }
+        if name == "row_check" {
+            faults.extend(self.unnamed());
+        }
         faults
+    }
+
+    /// The places and residues that the row check should have named and did not.
+    fn unnamed(&self) -> Vec<String> {
+        let unseen = |(index, &times): (usize, &u64)| (times == 0).then_some(index);
+        let places = self.places.iter().enumerate().filter_map(unseen);
+        let residues = self.residues.iter().enumerate().filter_map(unseen);
+        let places = places.map(|place| format!("row_check: never 14 at place {place}"));
+        let residues = residues.filter(|&residue| residue != NEVER_NAMED);
+        let residues = residues.map(|residue| format!("row_check: never 16 by residue {residue}"));
+        places.chain(residues).collect()
     }
 
     fn has_lists(&self) -> bool {
@@ -128,6 +152,9 @@ impl Tally {
         }
         if answers[16] > 0 {
             let _ = writeln!(text, "    16 by residue, from 0 on: {:?}", self.residues);
+        }
+        if self.places != [0; COPY_COLUMNS] {
+            let _ = writeln!(text, "    14 by place, from 0 on: {:?}", self.places);
         }
         let lines = [
             (

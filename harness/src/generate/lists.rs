@@ -25,7 +25,7 @@ fn padding() -> Vec<u64> {
 }
 
 /// Padding, or another dead row that passes.
-fn dead(rng: &mut Rng) -> Vec<u64> {
+pub(super) fn dead(rng: &mut Rng) -> Vec<u64> {
     if rng.bit() == 1 {
         return padding();
     }
@@ -93,7 +93,7 @@ pub(super) fn damage(rng: &mut Rng, gap: u64, list: &mut Rows, place: usize) {
 }
 
 /// Rows as a call that is not sound would have them.
-fn wild_call(rng: &mut Rng, gap: u64) -> Rows {
+pub(super) fn wild_call(rng: &mut Rng, gap: u64) -> Rows {
     let call = calls::call(rng, gap);
     rows_of(sound::rows_of(&calls::cut(rng, call)))
 }
@@ -153,7 +153,7 @@ fn overrun(cut: &CutCall, rest: &Call) -> Vec<u64> {
 }
 
 /// A dead row with one odd choice.
-fn odd_dead(rng: &mut Rng, gap: u64) -> Vec<u64> {
+pub(super) fn odd_dead(rng: &mut Rng, gap: u64) -> Vec<u64> {
     let (mut rest, piece) = calls::dead_parts(rng);
     if rng.bit() == 1 {
         rest.count = piece.width;
@@ -226,7 +226,7 @@ fn alias(rng: &mut Rng, row: &mut [u64]) {
 
 /// A row made anew after a change of what it says, so that its residues mostly stay
 /// 0 and its links break.
-fn rebuild(rng: &mut Rng, gap: u64, row: &mut Vec<u64>) {
+pub(super) fn rebuild(rng: &mut Rng, gap: u64, row: &mut Vec<u64>) {
     let Some((mut call, mut piece)) = sound::read_row(row) else {
         return;
     };

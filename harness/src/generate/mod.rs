@@ -9,6 +9,7 @@ mod operands;
 pub mod programs;
 pub mod records;
 mod registers;
+mod row_check;
 pub mod rows;
 mod solve;
 
@@ -104,6 +105,7 @@ fn question(rng: &mut Rng, kind: &str) -> Question {
         "push_reg_access" => records::push_question(rng),
         "new_register_state" => registers::new_question(rng),
         "chain_check" => lists::check_question(rng),
+        "row_check" => row_check::question(rng),
         "read_back" => lists::read_question(rng),
         "callcheck" => programs::question(rng),
         _ if kind.ends_with("residue") => rows::residue_question(rng, kind),

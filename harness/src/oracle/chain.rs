@@ -1,9 +1,10 @@
-//! Chain check and read-back, by document 01's words. The residues are the
+//! Chain check, row check and read-back, by document 01's words. The residues are the
 //! original's.
 
 use super::records::OPERATION;
 use super::{
-    Answer, COPY_COLUMNS, GAP_LIMIT, Outcome, PRIME, Refusal, refuse_if, refuse_short, write_front,
+    Answer, COPY_COLUMNS, GAP_LIMIT, Outcome, PRIME, Refusal, refuse_if, refuse_non_elements,
+    refuse_short, write_front,
 };
 use original::tables::copy::cols;
 use original::tables::residues::copy_residues;
@@ -14,6 +15,17 @@ const CALL: usize = 5;
 /// Whether the list of rows is one of whole calls; the value is the number of rows.
 pub fn chain_check(gap: u64, rows: &[u64]) -> Answer {
     check(gap, rows).into()
+}
+
+/// Whether one row passes alone, with no neighbours.
+pub fn row_check(gap: u64, row: &[u64]) -> Answer {
+    let judge = || {
+        refuse_if(gap >= GAP_LIMIT, 7)?;
+        refuse_if(row.len() != COPY_COLUMNS, 13)?;
+        check_row(gap, row)?;
+        Ok(0)
+    };
+    Answer::from(judge())
 }
 
 /// One operation record for each live row, five numbers for each call.
@@ -48,7 +60,7 @@ fn check(gap: u64, rows: &[u64]) -> Outcome<u64> {
     refuse_if(!rows.len().is_multiple_of(COPY_COLUMNS), 13)?;
     let mut before: Option<&[u64]> = None;
     for (place, row) in rows.chunks(COPY_COLUMNS).enumerate() {
-        check_row(gap, row, place)?;
+        check_row(gap, row).map_err(|refusal| Refusal { place, ..refusal })?;
         if !is_linked(before, row) {
             return Err(Refusal::at(17, place));
         }
@@ -61,22 +73,17 @@ fn check(gap: u64, rows: &[u64]) -> Outcome<u64> {
     }
 }
 
-/// 14, 15, 16.
-fn check_row(gap: u64, row: &[u64], place: usize) -> Outcome<()> {
-    if row.iter().any(|&number| number >= PRIME) {
-        return Err(Refusal::at(14, place));
-    }
-    if (0..COPY_COLUMNS).any(|column| row[column] >= limit(column)) {
-        return Err(Refusal::at(15, place));
-    }
-    match copy_residues(gap, row)
-        .iter()
-        .position(|&residue| residue != 0)
-    {
+/// 14, 15, 16 with the places that a row alone has: in 14 the number's, else 0. In a list
+/// the place is the row's.
+fn check_row(gap: u64, row: &[u64]) -> Outcome<()> {
+    refuse_non_elements(row)?;
+    let is_out = |column: usize| row[column] >= limit(column);
+    refuse_if((0..COPY_COLUMNS).any(is_out), 15)?;
+    let residues = copy_residues(gap, row);
+    match residues.iter().position(|&residue| residue != 0) {
         Some(index) => Err(Refusal {
-            number: 16,
-            place,
             index,
+            ..Refusal::at(16, 0)
         }),
         None => Ok(()),
     }

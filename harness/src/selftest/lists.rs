@@ -1,18 +1,21 @@
-//! Row lists: sound exactly if the chain check passes them; tables of calls.
+//! Row lists: sound exactly if the chain check passes them; rows alone; tables of calls.
 
 use super::{Report, Tally};
 use crate::bench::one_pass;
 use crate::generate::{Generator, calls, numbers};
-use crate::oracle;
+use crate::oracle::{self, Answer, COPY_COLUMNS};
 use crate::protocol::{Argument, Question};
 use crate::rng::Rng;
 use crate::sound::{self, Call, CutCall};
 
 pub fn run(report: &mut Report, seed: u64, count: u64) {
     report.add(passes_exactly_if_sound(seed, count));
+    report.add(row_check_passes_exactly_if_sound(seed, count));
+    report.add(row_check_is_the_chains(seed, count / 4));
     report.add(rows_are_the_originals(seed, count / 4));
     report.add(expanded_calls_come_back(seed, count / 20));
     report.add(one_pass_agrees(seed, count));
+    report.add(one_pass_row_agrees(seed, count));
 }
 
 /// A cut call's operation records.
@@ -50,23 +53,78 @@ fn passes_exactly_if_sound(seed: u64, count: u64) -> Tally {
     let mut generator = Generator::new("chain_check", seed).expect("a kind");
     for _ in 0..count {
         let question = generator.question();
-        let [Argument::Number(gap), Argument::List(rows)] = &question.arguments[..] else {
-            unreachable!("chain_check takes a gap and rows")
-        };
-        let answer = oracle::chain_check(*gap, rows);
-        let holds = match sound::sound_calls(*gap, rows) {
+        let (gap, rows) = gap_and_rows(&question);
+        let answer = oracle::chain_check(gap, rows);
+        let holds = match sound::sound_calls(gap, rows) {
             None => answer.number != 0,
             Some(cuts) => {
                 let records: Vec<u64> = cuts.iter().flat_map(records_of).collect();
                 let calls: Vec<u64> = cuts.iter().flat_map(|cut| numbers_of(&cut.call)).collect();
-                answer.number == 0 && reads_back(*gap, rows, &records, &calls)
+                answer.number == 0 && reads_back(gap, rows, &records, &calls)
             }
         };
         tally.case(holds, || question.line());
-        match answer.number {
-            16 => tally.saw(format!("16, residue {:02}", answer.value)),
-            number => tally.saw(format!("{number:02}")),
-        }
+        saw_answer(&mut tally, answer);
+    }
+    tally
+}
+
+fn saw_answer(tally: &mut Tally, answer: Answer) {
+    match answer.number {
+        16 => tally.saw(format!("16, residue {:02}", answer.value)),
+        number => tally.saw(format!("{number:02}")),
+    }
+}
+
+/// What the chain check and the row check take.
+fn gap_and_rows(question: &Question) -> (u64, &[u64]) {
+    match &question.arguments[..] {
+        [Argument::Number(gap), Argument::List(rows)] => (*gap, rows),
+        _ => unreachable!("a check takes a gap and rows"),
+    }
+}
+
+fn row_check_passes_exactly_if_sound(seed: u64, count: u64) -> Tally {
+    let mut tally = Tally::new("row check passes exactly the sound rows");
+    let mut generator = Generator::new("row_check", seed).expect("a kind");
+    for _ in 0..count {
+        let question = generator.question();
+        let (gap, row) = gap_and_rows(&question);
+        let answer = oracle::row_check(gap, row);
+        let holds = (answer.number == 0) == sound::is_sound_row(gap, row);
+        tally.case(holds, || question.line());
+        saw_answer(&mut tally, answer);
+    }
+    tally
+}
+
+/// Where the chain check stops by 14, 15 or 16, that row alone is refused so, and rows
+/// that it got past pass alone.
+fn row_check_is_the_chains(seed: u64, count: u64) -> Tally {
+    let mut tally = Tally::new("row check of a list's rows says what the chain check says");
+    let mut generator = Generator::new("chain_check", seed).expect("a kind");
+    for _ in 0..count {
+        let question = generator.question();
+        let (gap, rows) = gap_and_rows(&question);
+        let Answer {
+            number,
+            place,
+            value,
+        } = oracle::chain_check(gap, rows);
+        let alone = |row| oracle::row_check(gap, row);
+        let alone: Vec<Answer> = rows.chunks(COPY_COLUMNS).map(alone).collect();
+        let passed = |rows: &[Answer]| rows.iter().all(|answer| answer.number == 0);
+        let place = place as usize;
+        let holds = match number {
+            7 | 13 => continue,
+            14..=16 => {
+                let stopped = alone[place];
+                passed(&alone[..place]) && (stopped.number, stopped.value) == (number, value)
+            }
+            17 => passed(&alone[..=place]),
+            _ => passed(&alone),
+        };
+        tally.case(holds, || question.line());
     }
     tally
 }
@@ -132,6 +190,18 @@ fn one_pass_agrees(seed: u64, count: u64) -> Tally {
         let read = answer == reply.answer && [ops, calls, counts.to_vec()] == reply.lent[..];
         let checked = one_pass::chain_check(*gap, rows) == oracle::chain_check(*gap, rows);
         tally.case(read && checked, || question.line());
+    }
+    tally
+}
+
+fn one_pass_row_agrees(seed: u64, count: u64) -> Tally {
+    let mut tally = Tally::new("the one-pass row check answers as the oracle");
+    let mut generator = Generator::new("row_check", seed).expect("a kind");
+    for _ in 0..count {
+        let (question, reply) = generator.asked();
+        let (gap, row) = gap_and_rows(&question);
+        let holds = one_pass::row_check(gap, row) == reply.answer;
+        tally.case(holds, || question.line());
     }
     tally
 }

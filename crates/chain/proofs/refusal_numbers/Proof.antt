@@ -9,13 +9,9 @@ pub refusal-numbers-spec : {M : Type 1} → statement M
 refusal-numbers-spec =
     tie.close
     (tie.spec
-    (λ c. search needs) (λ c κs. search needs) (λ c. search needs) (λ c κs. search needs) (λ c. search needs)
-    (λ c κs. search needs) (λ c. search needs) (λ c κs. search needs) (λ c. search needs) (λ c. search needs)
-    (λ c κs. search needs) (λ c. search needs) (λ c κs. search needs)
+    (λ c. search needs) (λ c κs. search needs) (λ c. search needs) (λ c κs. search needs)
+    (λ c. search needs) (λ c κs. search needs) (λ c. search needs) (λ c κs. search needs)
     (λ c. c .refuse .ensures ∙ sym (ap refusalNumbers (c .before .enum-told .given .1)))
     (λ c. c .refuse2 .ensures ∙ sym (ap refusalNumbers (c .before .enum-told2 .given .1)))
-    (λ c. c .refuse3 .ensures ∙ sym (ap refusalNumbers (c .before .before .why .given .1)))
-    (λ c. c .refuse4 .ensures ∙ sym (ap refusalNumbers (c .before .before .why2 .given .1)))
-    (λ c. sym (ap refusalNumbers (c .before .why3 .given .1)))
-    (λ c. c .refuse5 .ensures ∙ sym (ap refusalNumbers (c .before .before .why4 .given .1)))
-    (λ c. c .refuse6 .ensures ∙ sym (ap refusalNumbers (c .before .before .why5 .given .1))))
+    (λ c. c .fault-numbers .ensures ∙ sym (ap refusalNumbers (c .before .before .why .given .1)))
+    (λ c. c .link-numbers .ensures ∙ sym (ap refusalNumbers (c .before .before .why2 .given .1))))

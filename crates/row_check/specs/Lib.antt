@@ -1,0 +1,2 @@
+pub mod RowAnswer
+pub mod Instances
