@@ -4,8 +4,8 @@
 //! parameters, a slice as its length and its numbers. The answer is number, place, value,
 //! then each lent slice afterwards as its length and its numbers, one number to a line.
 
-use crate::generate::Generator;
 use crate::generate::programs::question_of;
+use crate::generate::{Generator, carries};
 use crate::inputs;
 use crate::oracle::PRIME;
 use crate::protocol::{self, Argument, Question, Reply};
@@ -62,7 +62,7 @@ const PROGRAMS: &[Program] = &[
     },
     Program {
         name: "replay_access",
-        numbers: 8_192,
+        numbers: 16_384,
         parts: &[
             part("generate_memw_trace", [1, 1], 235),
             part("generate_memw_aligned_trace", [1, 1], 180),
@@ -291,6 +291,7 @@ fn fixed(name: &str) -> Result<Vec<Question>, String> {
     }
     match name {
         "callcheck" => Ok(inputs::recorded()?.into_iter().map(question_of).collect()),
+        carries::MAKER => Ok(carries::at_each_address()),
         _ => Ok(Vec::new()),
     }
 }

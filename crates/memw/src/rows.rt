@@ -11,7 +11,6 @@ use crate::MemwOperation;
 use crate::RegRow;
 use words::bit;
 use words::halves;
-use words::low_word;
 use words::words;
 
 // The access of a record of 29 numbers.
@@ -71,12 +70,19 @@ fn write_flags(width: u64) -> [u64; 3]
     [bit(width == 2), bit(width == 4), bit(width == 8)]
 }
 
-// CARRY[i] of a low address word, the sum in 64 bits.
-fn carry(low: u64, i: u64) -> u64
+// The low word of an address, in 32 bits.
+fn low_word(address: u64) -> u32
+    ensures { λ r. ⌜ r ≡ lowWord address ⌝ }
+{
+    (address % 0x1_0000_0000) as u32
+}
+
+// CARRY[i] of a low address word: 1 from 2^32 - 1 - i on. By a difference, since the sum that memw.rs takes can leave 32 bits.
+fn carry(low: u32, i: u32) -> u64
     requires { ⌜ (low < 2 ^ 32) × (i ≤ 6) ⌝ }
     ensures { λ r. ⌜ r ≡ carry low i ⌝ }
 {
-    bit(0x1_0000_0000 <= low + (i + 1))
+    if 0xffff_ffff - i <= low { 1 } else { 0 }
 }
 
 // CARRY[0] to CARRY[6] of an address.

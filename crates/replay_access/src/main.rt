@@ -300,7 +300,7 @@ fn ask_all(numbers: &[u64]) {
 fn main() {
     let mut text = io::large_buffer();
     let n = io::read_full(0, &mut text);
-    let mut numbers = [0u64; 8192];
+    let mut numbers = [0u64; 16384];
     let k = replay::numbers_of(&text[..n], &mut numbers);
     ask_all(&numbers[..k]);
 }

@@ -7,8 +7,8 @@ mod tally;
 
 use crate::bench::keep_memory;
 use crate::exported;
-use crate::generate::Generator;
 use crate::generate::programs::question_of;
+use crate::generate::{Generator, carries};
 use crate::inputs;
 use crate::protocol::{Argument, FUNCTIONS, Question, Reply};
 use crate::side::EXPORTED;
@@ -84,13 +84,16 @@ fn program() -> PathBuf {
     root.join(std::env::var_os("MINJOLF_CALLCHECK").unwrap_or(CALLCHECK.into()))
 }
 
-/// The inputs of the program that come in every run.
-fn first(name: &str) -> Result<Vec<Question>, String> {
-    if name != "callcheck" {
-        return Ok(Vec::new());
+/// What a function is asked first in every run, if there is something.
+fn first(name: &str, seed: u64) -> Result<Vec<Question>, String> {
+    match name {
+        "callcheck" => {
+            let inputs = inputs::refused().into_iter().chain(inputs::recorded()?);
+            Ok(inputs.map(question_of).collect())
+        }
+        carries::MAKER => Ok(carries::questions(seed)),
+        _ => Ok(Vec::new()),
     }
-    let inputs = inputs::refused().into_iter().chain(inputs::recorded()?);
-    Ok(inputs.map(question_of).collect())
 }
 
 /// One function's run.
@@ -113,7 +116,7 @@ impl Comparison {
             left: vec![],
         };
         let mut generator =
-            Generator::of_all_lengths(name, seed, first(name)?).expect("a function's name");
+            Generator::of_all_lengths(name, seed, first(name, seed)?).expect("a function's name");
         let end = Instant::now() + share;
         while Instant::now() < end || !comparison.has_seen_enough(&generator) {
             for _ in 0..BATCH {

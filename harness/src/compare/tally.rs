@@ -1,9 +1,11 @@
 //! What one function's run has seen, and what it should have.
 
+use crate::generate::carries;
 use crate::generate::long::EDGES;
 use crate::oracle::records::{ACCESS, OPERATION, REGISTER};
 use crate::oracle::{COPY_COLUMNS, LIST_LIMIT};
 use crate::protocol::{Argument, FUNCTIONS, Question, Reply};
+use std::collections::BTreeSet;
 use std::fmt::Write as _;
 
 /// A list of more records than this is a long one.
@@ -32,6 +34,10 @@ pub struct Tally {
     long: u64,
     /// Calls that took the whole of a window of 65,536 cells and were accepted.
     whole_windows: u64,
+    /// Of the general table's maker, where it made rows: accesses at each of the addresses
+    /// where CARRY changes, and the high words of these.
+    carries: [u64; carries::ADDRESSES],
+    high_words: BTreeSet<u64>,
 }
 
 impl Tally {
@@ -48,6 +54,8 @@ impl Tally {
             edges: [0; 3],
             long: 0,
             whole_windows: 0,
+            carries: [0; carries::ADDRESSES],
+            high_words: BTreeSet::new(),
         }
     }
 
@@ -75,6 +83,21 @@ impl Tally {
         if self.name == "collect_copy_ops" && number == 0 {
             let all = Argument::Number(LIST_LIMIT as u64);
             self.whole_windows += u64::from(question.arguments[4] == all);
+        }
+        if self.name == carries::MAKER && number == 0 {
+            self.saw_addresses(question);
+        }
+    }
+
+    fn saw_addresses(&mut self, question: &Question) {
+        let accesses = question
+            .lists(false)
+            .flat_map(|list| list.chunks_exact(ACCESS));
+        for address in accesses.map(|access| access[1]) {
+            if let Some(place) = carries::place(address) {
+                self.carries[place] += 1;
+                self.high_words.insert(address >> 32);
+            }
         }
     }
 
@@ -107,6 +130,12 @@ impl Tally {
         }
         if name == "row_check" {
             faults.extend(self.unnamed());
+        }
+        if name == carries::MAKER {
+            let seen = carries::HIGH_WORDS.map(|high| self.high_words.contains(&high));
+            if self.carries.contains(&0) || seen.contains(&false) {
+                faults.push(format!("{name}: not every address where CARRY changes"));
+            }
         }
         faults
     }
@@ -155,6 +184,13 @@ impl Tally {
         }
         if self.places != [0; COPY_COLUMNS] {
             let _ = writeln!(text, "    14 by place, from 0 on: {:?}", self.places);
+        }
+        if !self.high_words.is_empty() {
+            let (carries, high) = (self.carries, self.high_words.len());
+            let _ = writeln!(
+                text,
+                "    accesses at 2^32 - 10 to 2^32 + 2, by low word: {carries:?}; high words: {high}"
+            );
         }
         let lines = [
             (

@@ -1,6 +1,7 @@
 //! Questions from a seed.
 
 pub mod calls;
+pub mod carries;
 mod expansion;
 pub mod lists;
 pub mod long;

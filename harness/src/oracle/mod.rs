@@ -24,8 +24,8 @@ pub use operands::add_pair;
 pub use registers::{collect_copy_register_ops, flat as flat_registers, new_register_state};
 pub use residues::{copy_residue, memw_aligned_residue, memw_register_residue, memw_residue};
 pub use tables::{
-    generate_copy_trace, generate_memw_aligned_trace, generate_memw_register_trace,
-    generate_memw_trace,
+    carries_by_words, generate_copy_trace, generate_memw_aligned_trace,
+    generate_memw_register_trace, generate_memw_trace,
 };
 
 /// Numbers in a row of the copy table.

@@ -81,6 +81,13 @@ pub fn generate_memw_trace(records: &[u64], table: &mut [u64]) -> Answer {
     make_table(shape, records, table, make).into()
 }
 
+/// Document 01's CARRY of an address: 'CARRY[i] is 1 exactly if low address + i + 1 is at
+/// least 2^32'.
+pub fn carries_by_words(address: u64) -> [u64; 7] {
+    let low = address % (1 << 32);
+    std::array::from_fn(|i| u64::from(low + i as u64 + 1 >= 1 << 32))
+}
+
 const ALIGNED: Shape = Shape {
     record: ACCESS,
     columns: 29,

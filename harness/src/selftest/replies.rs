@@ -2,8 +2,8 @@
 //! and where the original can be held against document 01's words.
 
 use super::{Report, Tally};
-use crate::generate::{Generator, records};
-use crate::oracle;
+use crate::generate::{Generator, carries, records};
+use crate::oracle::{self, records::ACCESS};
 use crate::protocol::{Argument, FUNCTIONS, Question, Reply};
 use crate::rng::Rng;
 
@@ -12,6 +12,7 @@ pub fn run(report: &mut Report, seed: u64, count: u64) {
         report.add(refusals_write_nothing(name, seed, count / 20));
     }
     report.add(routes_by_words(seed, count));
+    report.add(carries_by_words(seed));
     report.add(made_rows_have_zero_residues(seed, count / 20));
     report.add(moved_bytes(seed, count / 20));
 }
@@ -52,6 +53,23 @@ fn routes_by_words(seed: u64, count: u64) -> Tally {
         expected[route as usize] = 1;
         tally.case(counts == expected, || format!("{record:?}"));
         tally.saw(["register", "aligned", "general"][route as usize]);
+    }
+    tally
+}
+
+/// Document 01's words for CARRY against the original's rows, where CARRY changes.
+fn carries_by_words(seed: u64) -> Tally {
+    let mut tally = Tally::new("CARRY by document 01's words is the original's");
+    for question in carries::questions(seed) {
+        let Reply { answer, lent } = question.reply();
+        if answer.number != 0 {
+            continue;
+        }
+        let accesses = question.lists(false).flat_map(|list| list.chunks(ACCESS));
+        for (access, row) in accesses.zip(lent[0].chunks(49)) {
+            let holds = row[24..31] == oracle::carries_by_words(access[1]);
+            tally.case(holds, || format!("{access:?}"));
+        }
     }
     tally
 }
