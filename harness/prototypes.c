@@ -200,6 +200,15 @@ static void ask_collect_copy_ops(void)
     lent(counts);
 }
 
+static void ask_generate_load(void)
+{
+    uint64_t s = number();
+    uint64_t calls = number();
+    list out = numbers();
+    answer(generate_load(s, calls, out.at, out.length));
+    lent(out);
+}
+
 static void ask_read_back(void)
 {
     uint64_t gap = number();
@@ -235,6 +244,7 @@ static const struct {
     {"new_register_state", ask_new_register_state},
     {"collect_copy_register_ops", ask_collect_copy_register_ops},
     {"collect_copy_ops", ask_collect_copy_ops},
+    {"generate_load", ask_generate_load},
     {"chain_check", ask_chain_check},
     {"row_check", ask_row_check},
     {"read_back", ask_read_back},

@@ -1,5 +1,5 @@
 /* The functions of the static library that `rt staticlib exports` makes. docs/CALLING.md says how to link it and what each
- * function writes; document 01's refusal numbers are listed there too.
+ * function writes; the refusal numbers are listed there too.
  *
  * A slice is a pointer and its length in elements. The caller's part: every pointer is valid for its length, or for its array's, and
  * aligned, not null even if the slice is empty; what is lent to be written overlaps nothing else of the call.
@@ -27,7 +27,8 @@ enum {
     MINJOLF_OP_WIDTH = 16,
     MINJOLF_ACCESS_WIDTH = 29,
     MINJOLF_REGISTER_WIDTH = 8,
-    MINJOLF_CALL_WIDTH = 5,
+    MINJOLF_CALL_WIDTH = 5, /* as read-back writes it */
+    MINJOLF_HANDED_WIDTH = 5, /* as it is handed in */
     MINJOLF_COPY_COLUMNS = 41,
     MINJOLF_MEMW_COLUMNS = 49,
     MINJOLF_MEMW_ALIGNED_COLUMNS = 29,
@@ -81,6 +82,10 @@ minjolf_answer collect_copy_register_ops(uint64_t kind, uint64_t timestamp, uint
 minjolf_answer collect_copy_ops(uint64_t kind, uint64_t timestamp, uint64_t src, uint64_t dst, uint64_t count, uint64_t gap,
                                 uint8_t *bytes, size_t bytes_length, uint64_t *stamps, size_t stamps_length, uint64_t *ops,
                                 size_t ops_length, uint64_t *accesses, size_t accesses_length, uint64_t counts[2]);
+
+/* The first calls of the load of s, drawn from it alone: kind, stamp, src, dst, count of each. Refuses with 19 (more than 65,536 calls
+ * are wanted), 9; place 0. value: calls. */
+minjolf_answer generate_load(uint64_t s, uint64_t calls, uint64_t *out, size_t out_length);
 
 /* One copy row by itself: 41 numbers. Refuses with 7, 13, 14 (place: the index of the lowest number not below p), 15, 16 (value: the
  * residue's index); place 0 but for 14. value: 0. */

@@ -102,6 +102,7 @@ mod c {
             accesses_length: usize,
             counts: *mut u64,
         ) -> Answer;
+        pub fn generate_load(s: u64, calls: u64, out: *mut u64, out_length: usize) -> Answer;
         pub fn chain_check(gap: u64, rows: *const u64, rows_length: usize) -> Answer;
         pub fn row_check(gap: u64, row: *const u64, row_length: usize) -> Answer;
         pub fn read_back(
@@ -295,6 +296,13 @@ pub fn collect_copy_ops(
         accesses.as_mut_ptr(), accesses.len(),
         counts.as_mut_ptr(),
     ))
+}
+
+pub fn generate_load(s: u64, calls: u64, out: &mut [u64]) -> Answer {
+    call!(
+        exported_generate_load,
+        generate_load(s, calls, out.as_mut_ptr(), out.len())
+    )
 }
 
 pub fn chain_check(gap: u64, rows: &[u64]) -> Answer {

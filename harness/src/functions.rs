@@ -57,6 +57,7 @@ pub const FUNCTIONS: &[Function] = &[
         &[Number, Number, Number, Number, Number, Number, LentBytes, Lent, Lent, Lent,
           LentArray(2)],
         &[1, 2, 3, 5, 7, 8, 9, 10]),
+    ("generate_load", &[Number, Number, Lent], &[9, 19]),
     ("chain_check", &[Number, Slice], &[7, 13, 14, 15, 16, 17, 18]),
     ("row_check", &[Number, Slice], &[7, 13, 14, 15, 16]),
     ("read_back", &[Number, Slice, Lent, Lent, LentArray(2)],

@@ -5,7 +5,7 @@
 //! then each lent slice afterwards as its length and its numbers, one number to a line.
 
 use crate::generate::programs::question_of;
-use crate::generate::{Generator, carries};
+use crate::generate::{Generator, carries, load};
 use crate::inputs;
 use crate::oracle::PRIME;
 use crate::protocol::{self, Argument, Question, Reply};
@@ -79,7 +79,10 @@ const PROGRAMS: &[Program] = &[
     Program {
         name: "replay_expansion",
         numbers: 8_192,
-        parts: &[part("collect_copy_ops", [2, 1], 300)],
+        parts: &[
+            part("collect_copy_ops", [2, 1], 300),
+            part("generate_load", [1, 3], 110),
+        ],
     },
     Program {
         name: "replay_chain",
@@ -246,6 +249,7 @@ fn class(question: &Question, reply: &Reply) -> [u64; 2] {
     let numbers: Vec<u64> = question.arguments.iter().filter_map(number).collect();
     let chosen = match question.name() {
         name if name.ends_with("residue") => numbers[numbers.len() - 1],
+        "generate_load" => numbers[1],
         name if name.starts_with("generate") => first_length(question),
         "route_accesses" => first_length(question),
         "collect_copy_register_ops" => numbers[0],
@@ -292,6 +296,7 @@ fn fixed(name: &str) -> Result<Vec<Question>, String> {
     match name {
         "callcheck" => Ok(inputs::recorded()?.into_iter().map(question_of).collect()),
         carries::MAKER => Ok(carries::at_each_address()),
+        "generate_load" => Ok(load::always()),
         _ => Ok(Vec::new()),
     }
 }

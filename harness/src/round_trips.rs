@@ -2,13 +2,13 @@
 //! asks it. The answers are what the oracle's steps give, one after the other.
 
 use crate::generate::numbers::{edge, room};
-use crate::oracle::records::{ACCESS, OPERATION};
+use crate::oracle::records::{ACCESS, HANDED, OPERATION};
 use crate::oracle::{self, Answer, COPY_COLUMNS, LIST_LIMIT};
 use crate::protocol::{self, Argument, Reply};
 use crate::rng::Rng;
 use std::collections::BTreeMap;
 
-/// Kind, stamp, src, dst, count.
+/// Numbers in a call as read-back writes it.
 const CALL: usize = 5;
 /// The most cells of a window, but for one too many in one of its slices.
 const CELLS: usize = 64;
@@ -89,7 +89,7 @@ impl Trip {
     /// are left out.
     fn expand(&mut self) -> Expanded {
         let mut all = Expanded::default();
-        for call in self.calls.chunks_exact(CALL) {
+        for call in self.calls.chunks_exact(HANDED) {
             let mut counts = [0; 2];
             let answer = oracle::collect_copy_ops(
                 call[0],
@@ -114,7 +114,7 @@ impl Trip {
 
     /// 8 and 10 of the list of calls itself.
     fn list(&self) -> Result<(), Answer> {
-        let (whole, cut) = (self.calls.len() / CALL, self.calls.len() % CALL);
+        let (whole, cut) = (self.calls.len() / HANDED, self.calls.len() % HANDED);
         if whole + usize::from(cut != 0) > LIST_LIMIT {
             return Err(refused(8, 0));
         }
@@ -225,7 +225,7 @@ fn draw(rng: &mut Rng) -> Trip {
             trip.calls.extend(call);
         }
         if rng.once_in(4) {
-            let cut = 1 + rng.place(CALL - 1);
+            let cut = 1 + rng.place(HANDED - 1);
             trip.calls.extend(junk(rng, cut));
         }
         if fill(rng, &mut trip) {
@@ -267,7 +267,7 @@ fn window(rng: &mut Rng) -> Trip {
 }
 
 /// A call that the window mostly takes.
-fn call(rng: &mut Rng, gap: u64, cells: u64) -> [u64; CALL] {
+fn call(rng: &mut Rng, gap: u64, cells: u64) -> [u64; HANDED] {
     let kind = rng.below(3);
     // A Set's destination has to fit too, so its count and source leave room.
     let apart = if kind == 1 { gap.min(cells) } else { 0 };
@@ -294,7 +294,7 @@ fn call(rng: &mut Rng, gap: u64, cells: u64) -> [u64; CALL] {
 }
 
 /// The same call made so that it is refused: 10, 1, 2, 3, 5.
-fn spoiled(rng: &mut Rng, call: [u64; CALL], gap: u64, last: u64) -> [u64; CALL] {
+fn spoiled(rng: &mut Rng, call: [u64; HANDED], gap: u64, last: u64) -> [u64; HANDED] {
     let [kind, stamp, src, dst, count] = call;
     match rng.below(5) {
         0 => [rng.pick(&[3, 4, u64::MAX]), stamp, src, dst, count],

@@ -6,6 +6,6 @@ use Rattle.answer.specs.declared.Answer.{Answer}
 abbrev pub accepted : ℕ → Answer
 accepted v = record { number = 0; place = 0; value = v }
 
--- refusal n of document 01, with its place
+-- refusal n of the documents, with its place
 abbrev pub refused : ℕ → ℕ → Answer
 refused n place = record { number = n; place = place; value = 0 }

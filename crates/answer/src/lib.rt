@@ -1,9 +1,9 @@
-// What every entry answers in numbers, for callers on the other side of a C boundary and for comparisons: document 01's refusal
+// What every entry answers in numbers, for callers on the other side of a C boundary and for comparisons: a refusal's
 // number, its place and a value. Assumes nothing.
 ghost use mathlib.Core.Path.{_≡_};
 ghost use Rattle.answer.specs.Numbers.{accepted, refused};
 
-// `number` is 0 on success, else the refusal's number of document 01; `place` is the refusal's place, and 0 on success; `value` is
+// `number` is 0 on success, else the refusal's number; `place` is the refusal's place, and 0 on success; `value` is
 // what the function found, the residue's index for 16, and 0 for any other refusal.
 #[repr(C)]
 pub struct Answer {

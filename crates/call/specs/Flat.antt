@@ -19,7 +19,11 @@ callNumbers c = c .kind ∷ c .stamp ∷ c .src ∷ c .dst ∷ c .count ∷ []
 abbrev pub HANDED-WIDTH : ℕ
 HANDED-WIDTH = 5
 
--- the call in these
+-- a call in these: what read-back would write of it
+abbrev pub handedNumbers : Call → List ℕ
+handedNumbers c = callNumbers c
+
+-- and the call that these are
 abbrev pub callFrom : List ℕ → Call
 callFrom r = record { kind = at r 0; stamp = at r 1; src = at r 2; dst = at r 3; count = at r 4 }
 

@@ -10,6 +10,7 @@ use answer::Answer;
 use records::tables::record_count;
 ghost use mathlib.Core.Path.{_≡_};
 ghost use Rattle.field.specs.Answers.{addAnswer, subAnswer, mulAnswer, fieldNumbers};
+ghost use Rattle.load.specs.Load.{LoadDone};
 ghost use Rattle.records.specs.Records.{LIMIT};
 ghost use Rattle.routing.specs.Routing.{lists};
 ghost use Rattle.memw.specs.Tables.{MemwDone};
@@ -44,6 +45,14 @@ pub extern "C" fn field_mul(a: u64, b: u64) -> Answer
     ensures answer { λ r. ⌜ r ≡ fieldNumbers (mulAnswer a b) ⌝ }
 {
     field::numbers(field::field_mul(a, b))
+}
+
+// The first `calls` calls of the load of `s`, or 19, 9; the value is the number of calls.
+#[no_mangle]
+pub extern "C" fn generate_load(s: u64, calls: u64, out: &mut [u64]) -> Answer
+    ensures { λ r. ⌜ LoadDone s calls (now (out .entry)) r (now (out .exit)) ⌝ }
+{
+    load::numbers(load::generate_load(s, calls, out))
 }
 
 // The copy table of the operation records, or 8, 10, 9; the value is the number of rows.

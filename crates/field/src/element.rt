@@ -54,7 +54,7 @@ fn high(a: u64, b: u64) -> u64
 }
 
 // The lower 64 bits of a * b: the product of the high halves has no part in them.
-fn low(a: u64, b: u64) -> u64
+pub fn low(a: u64, b: u64) -> u64
     ensures { λ r. ⌜ r ≡ a * b % 2 ^ 64 ⌝ }
 {
     let a0 = a % 0x1_0000_0000;

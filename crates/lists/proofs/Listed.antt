@@ -2,11 +2,11 @@
 -- part are these, joined. Assumes nothing.
 use mathlib.Core.Path.{_≡_, refl, sym, ap, ap₂, _∙_, subst}
 use mathlib.Core.Bool.{Bool, true, false, cond}
-use mathlib.Core.List.{List, [], _∷_, _++_, flatMap, append-nil}
+use mathlib.Core.List.{List, [], _∷_, _++_, flatMap, append-nil, cons-eq-cons}
 use Prim.Native.Nat.{ℕ, zero, suc, _+_, _-_, _≤_, _<_}
 use native.Mathlib.Nat.{add-zero, zero-add}
 use native.Mathlib.Omega.{arith}
-use lib.ListN.{length, length-append}
+use lib.ListN.{length, take, length-append}
 use Rattle.lists.specs.Lists.{All, kept, listed, flat, picked, counted}
 use Rattle.lists.proofs.Joined.{flatMap-append}
 
@@ -54,12 +54,33 @@ each-listed P g k (suc n) all (suc i) h =
     subst (λ (j : ℕ). P (g j)) e (each-listed P g (k + 1) n (all .1) i (omega arith))
 
 -- one more at the end
-listed-more : {A : Type 0} (g : ℕ → A) (k n : ℕ) → listed g k (suc n) ≡ listed g k n ++ (g (k + n) ∷ [])
+pub listed-more : {A : Type 0} (g : ℕ → A) (k n : ℕ) → listed g k (suc n) ≡ listed g k n ++ (g (k + n) ∷ [])
 unfolding listed
 listed-more g k zero = ap (λ (i : ℕ). g i ∷ []) (sym (add-zero k))
 listed-more g k (suc n) =
     let e : k + 1 + n ≡ k + suc n = omega arith in
     ap (λ xs. g k ∷ xs) (listed-more g (k + 1) n ∙ ap (λ (i : ℕ). listed g (k + 1) n ++ (g i ∷ [])) e)
+
+-- what stands behind xs is the element of that number, and xs are those before it
+pub listed-split : {A : Type 0} (g : ℕ → A) (k n : ℕ) (xs ys : List A) (x : A) → listed g k n ≡ xs ++ (x ∷ ys)
+    → (xs ≡ listed g k (length xs)) × (x ≡ g (k + length xs))
+unfolding listed
+listed-split g k zero [] ys x e = absurd (omega (arith, ap length e))
+listed-split g k zero (z ∷ zs) ys x e = absurd (omega (arith, ap length e))
+listed-split g k (suc n) [] ys x e = (refl, sym (cons-eq-cons .0 e .0) ∙ ap g (sym (add-zero k)))
+listed-split g k (suc n) (z ∷ zs) ys x e =
+    let both = cons-eq-cons .0 e in
+    let later = listed-split g (k + 1) n zs ys x (both .1) in
+    let place : k + 1 + length zs ≡ k + length (z ∷ zs) = omega arith in
+    (ap₂ (λ y ys. y ∷ ys) (sym (both .0)) (later .0), later .1 ∙ ap g place)
+
+-- the first n of more
+pub listed-front : {A : Type 0} (g : ℕ → A) (k n m : ℕ) → take n (listed g k (n + m)) ≡ listed g k n
+unfolding listed
+listed-front g k zero m = refl
+listed-front g k (suc n) m =
+    let e : suc n + m ≡ suc (n + m) = omega arith in
+    ap (λ j. take (suc n) (listed g k j)) e ∙ ap (λ xs. g k ∷ xs) (listed-front g (k + 1) n m)
 
 -- Joined
 

@@ -1,5 +1,5 @@
-// Replays recorded calls of the expansion through the exported function. A question is the function's number and its parameters, a list
-// as its length and its numbers; the answer's three numbers are printed, then each lent list afterwards. The file stdout has the
+// Replays recorded calls of the expansion and loads through the exported functions. A question is the function's number and its parameters,
+// a list as its length and its numbers; the answer's three numbers are printed, then each lent list afterwards. The file stdout has the
 // oracle's answers.
 use answer::Answer;
 ghost use lib.ListN.{length};
@@ -71,7 +71,7 @@ fn expand_with(
 }
 
 // collect_copy_ops: kind, timestamp, src, dst, count, gap, then bytes, stamps, operation records, access records and counts.
-fn ask(numbers: &[u64], at: usize) -> usize
+fn ask_expansion(numbers: &[u64], at: usize) -> usize
     requires { ⌜ at < length (now numbers) ⌝ }
     ensures { λ r. ⌜ (at < r) × (r ≤ length (now (numbers .entry))) ⌝ }
 {
@@ -104,6 +104,42 @@ fn ask(numbers: &[u64], at: usize) -> usize
         &numbers[accesses_end + 1..counts_end],
     );
     counts_end
+}
+
+fn load(s: u64, calls: u64, out: &mut [u64]) {
+    replay::print_answer(exports::generate_load(s, calls, out));
+    replay::print_list(out);
+}
+
+// The list of a question in a buffer.
+fn load_with(s: u64, calls: u64, before: &[u64]) {
+    let mut out = [0u64; 512];
+    let n = replay::load(before, &mut out);
+    load(s, calls, &mut out[0..n]);
+}
+
+// generate_load: s, the number of calls, then the list that is lent.
+fn ask_load(numbers: &[u64], at: usize) -> usize
+    requires { ⌜ at < length (now numbers) ⌝ }
+    ensures { λ r. ⌜ (at < r) × (r ≤ length (now (numbers .entry))) ⌝ }
+{
+    if numbers.len() - at <= 3 {
+        return numbers.len();
+    }
+    let out_end = replay::after_list(numbers, at + 3);
+    load_with(numbers[at + 1], numbers[at + 2], &numbers[at + 4..out_end]);
+    out_end
+}
+
+// One question: 0 collect_copy_ops, 1 generate_load.
+fn ask(numbers: &[u64], at: usize) -> usize
+    requires { ⌜ at < length (now numbers) ⌝ }
+    ensures { λ r. ⌜ (at < r) × (r ≤ length (now (numbers .entry))) ⌝ }
+{
+    if numbers[at] == 0 {
+        return ask_expansion(numbers, at);
+    }
+    ask_load(numbers, at)
 }
 
 fn ask_all(numbers: &[u64]) {

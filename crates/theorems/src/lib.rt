@@ -9,6 +9,8 @@ ghost use Rattle.records.specs.RowCount.{RowCountIsLeast};
 ghost use Rattle.field.specs.Theorems.{FieldTheorems};
 ghost use Rattle.field.specs.Constants.{BorrowConstants};
 ghost use Rattle.call.specs.Instances.{Instances};
+ghost use Rattle.load.specs.LoadLaws.{LoadLaws};
+ghost use Rattle.load.specs.Instances.{Instances as LoadInstances};
 ghost use Rattle.reg_access.specs.RegAccess.{RouteByInputs};
 ghost use Rattle.routing.specs.InOrder.{RoutedInOrder};
 ghost use Rattle.expansion_rows.specs.RowsCut.{RowsAreCut};
@@ -66,6 +68,14 @@ pub fn borrow_constants_hold() -> bool
 // Sound calls, calls that break one condition each, and the rows of a cut.
 pub fn call_instances_hold() -> bool
     ensures { λ r. ⌜ (r ≡ true) × Instances ⌝ }
+{
+    true
+}
+
+// A load in document 02's words: a Write's index is the sum of the earlier Write counts, call k has the stamp 4 × k, and a longer load
+// begins with the shorter one; with its first calls and its answers computed.
+pub fn load_laws_hold() -> bool
+    ensures { λ r. ⌜ (r ≡ true) × LoadLaws × LoadInstances ⌝ }
 {
     true
 }

@@ -5,6 +5,7 @@ mod accesses;
 mod field;
 mod goldilocks;
 mod lists;
+mod load;
 pub mod one_pass;
 mod tables;
 
@@ -56,6 +57,7 @@ pub fn run(kinds: &[&str]) -> Result<(), String> {
     accesses::expansion(&mut report);
     accesses::routing(&mut report);
     lists::run(&mut report);
+    load::run(&mut report);
     print!("{}", report.text());
     Ok(())
 }

@@ -3,12 +3,13 @@
 //! must leave alone is compared too. A run fails if anything differs, and if a function, a
 //! refusal or a length at the limit that it should have met did not occur.
 
+mod loads;
 mod tally;
 
 use crate::bench::keep_memory;
 use crate::exported;
 use crate::generate::programs::question_of;
-use crate::generate::{Generator, carries};
+use crate::generate::{Generator, carries, load};
 use crate::inputs;
 use crate::protocol::{Argument, FUNCTIONS, Question, Reply};
 use crate::side::EXPORTED;
@@ -52,6 +53,12 @@ pub fn run(seed: u64, seconds: u64, kinds: &[&str]) -> Result<(), String> {
         cases += comparison.tally.cases;
         mismatches += comparison.tally.mismatches;
         faults.extend(comparison.tally.missing());
+        if name == "generate_load" {
+            match loads::run(seed) {
+                Ok(seen) => print!("{seen}"),
+                Err(why) => faults.push(why),
+            }
+        }
     }
     println!("seed {seed}: {cases} cases, {mismatches} mismatches");
     if mismatches != 0 {
@@ -92,6 +99,7 @@ fn first(name: &str, seed: u64) -> Result<Vec<Question>, String> {
             Ok(inputs.map(question_of).collect())
         }
         carries::MAKER => Ok(carries::questions(seed)),
+        "generate_load" => Ok(load::always()),
         _ => Ok(Vec::new()),
     }
 }

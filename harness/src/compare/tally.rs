@@ -11,6 +11,12 @@ use std::fmt::Write as _;
 /// A list of more records than this is a long one.
 const SHORT: usize = 1000;
 
+/// Refusals go up to 19.
+const ANSWERS: usize = 20;
+
+/// So many loads from different numbers are compared at least.
+const SEEDS: usize = 10_000;
+
 /// The residue that is 0 in every row in range whose residues 14 and 15 are 0: the
 /// refusal 16 never names it.
 const NEVER_NAMED: usize = 31;
@@ -20,7 +26,7 @@ pub struct Tally {
     pub cases: u64,
     pub mismatches: u64,
     /// By number; 0 is no refusal.
-    answers: [u64; 19],
+    answers: [u64; ANSWERS],
     /// Of the refusals 16, by residue.
     residues: [u64; 40],
     /// Of the row check's refusals 14, by place.
@@ -38,6 +44,8 @@ pub struct Tally {
     /// where CARRY changes, and the high words of these.
     carries: [u64; carries::ADDRESSES],
     high_words: BTreeSet<u64>,
+    /// The first numbers of the loads that were made.
+    seeds: BTreeSet<u64>,
 }
 
 impl Tally {
@@ -46,7 +54,7 @@ impl Tally {
             name,
             cases: 0,
             mismatches: 0,
-            answers: [0; 19],
+            answers: [0; ANSWERS],
             residues: [0; 40],
             places: [0; COPY_COLUMNS],
             whole_rows: 0,
@@ -56,6 +64,7 @@ impl Tally {
             whole_windows: 0,
             carries: [0; carries::ADDRESSES],
             high_words: BTreeSet::new(),
+            seeds: BTreeSet::new(),
         }
     }
 
@@ -72,6 +81,11 @@ impl Tally {
         }
         if number == 14 && self.name == "row_check" {
             self.places[reply.answer.place as usize] += 1;
+        }
+        if let ("generate_load", 0, Argument::Number(s)) =
+            (self.name, number, &question.arguments[0])
+        {
+            self.seeds.insert(*s);
         }
         let Some(length) = length(question) else {
             return;
@@ -127,6 +141,9 @@ impl Tally {
             faults.push(format!(
                 "{name}: no call of a whole window of {LIST_LIMIT} cells"
             ));
+        }
+        if name == "generate_load" && self.seeds.len() < SEEDS {
+            faults.push(format!("{name}: fewer than {SEEDS} seeds"));
         }
         if name == "row_check" {
             faults.extend(self.unnamed());
@@ -193,6 +210,7 @@ impl Tally {
             );
         }
         let lines = [
+            (self.seeds.len() as u64, "loads from different numbers"),
             (
                 self.whole_windows,
                 "calls of a whole window of 65,536 cells",
@@ -219,6 +237,7 @@ fn unit(name: &str) -> Option<(usize, usize)> {
         "memw_residue" | "memw_aligned_residue" | "memw_register_residue" => (0, 1),
         "add_pair" => (3, 1),
         "callcheck" => (0, 1),
+        "generate_load" => (1, 1),
         _ => return None,
     };
     Some(unit)
@@ -229,6 +248,10 @@ fn length(question: &Question) -> Option<usize> {
     let (argument, width) = unit(question.name())?;
     match &question.arguments[argument] {
         Argument::List(list) => Some(list.len() / width),
-        Argument::Number(_) => None,
+        // A load is as long as it is wanted; far past the limit it is none.
+        Argument::Number(calls) => {
+            let calls = usize::try_from(*calls).ok()?;
+            (calls <= EDGES[2]).then_some(calls)
+        }
     }
 }

@@ -6,8 +6,8 @@ use super::expansion::Window;
 use super::lists::{self, Rows};
 use super::numbers::{gap, junk};
 use super::records::{self, Kind};
-use super::{operands, programs, rows};
-use crate::oracle::records::{ACCESS, REGISTER};
+use super::{load, operands, programs, rows};
+use crate::oracle::records::{ACCESS, HANDED, REGISTER};
 use crate::oracle::{LIST_LIMIT, route_by_words};
 use crate::protocol::{Argument, Question, Reply};
 use crate::rng::Rng;
@@ -145,6 +145,7 @@ fn question(rng: &mut Rng, kind: &str, length: usize, shape: Shape) -> Option<Qu
         "read_back" => read_back(rng, length, shape),
         "add_pair" => operands::long_question(rng, length),
         "callcheck" => programs::long_question(rng, length),
+        "generate_load" => calls(rng, length, shape),
         _ if kind.starts_with("generate_") => table(rng, kind, length, shape),
         _ if kind.ends_with("_residue") => rows::long_question(rng, kind, length),
         _ => return None,
@@ -183,6 +184,12 @@ fn table(rng: &mut Rng, name: &str, length: usize, shape: Shape) -> Question {
     let rows = records::rows(length.min(LIST_LIMIT));
     let table = buffer(rng, rows * columns, shape);
     Question::new(name, vec![list.into(), table])
+}
+
+/// A load of so many calls.
+fn calls(rng: &mut Rng, length: usize, shape: Shape) -> Question {
+    let out = buffer(rng, HANDED * length, shape);
+    load::asked(rng.number(), length as u64, out)
 }
 
 fn route(rng: &mut Rng, length: usize, shape: Shape) -> Question {

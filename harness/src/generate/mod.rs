@@ -4,6 +4,7 @@ pub mod calls;
 pub mod carries;
 mod expansion;
 pub mod lists;
+pub mod load;
 pub mod long;
 pub mod numbers;
 mod operands;
@@ -108,6 +109,7 @@ fn question(rng: &mut Rng, kind: &str) -> Question {
         "chain_check" => lists::check_question(rng),
         "row_check" => row_check::question(rng),
         "read_back" => lists::read_question(rng),
+        "generate_load" => load::question(rng),
         "callcheck" => programs::question(rng),
         _ if kind.ends_with("residue") => rows::residue_question(rng, kind),
         _ => records::table_question(rng, kind),

@@ -9,6 +9,8 @@ use original::tables::memw_register::RegRow;
 pub const OPERATION: usize = 16;
 pub const ACCESS: usize = 29;
 pub const REGISTER: usize = 8;
+/// Numbers in a call as it is handed in: kind, stamp, src, dst, count.
+pub const HANDED: usize = 5;
 
 /// 8, then the lowest record that is cut or that `fault` gives a number for.
 pub(super) fn judge_list(

@@ -4,6 +4,7 @@
 
 mod examples;
 mod lists;
+mod load;
 mod replies;
 
 use std::collections::BTreeMap;
@@ -71,6 +72,7 @@ pub fn run(seed: u64, count: u64) -> (String, u64) {
     let mut report = Report::default();
     examples::run(&mut report);
     lists::run(&mut report, seed, count);
+    load::run(&mut report, seed, count);
     replies::run(&mut report, seed, count);
     (report.text, report.failures)
 }

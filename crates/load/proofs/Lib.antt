@@ -1,0 +1,5 @@
+pub mod Drawing
+pub mod Loaded
+pub mod LoadLaws
+pub mod Instances
+pub mod Computing

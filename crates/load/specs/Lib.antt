@@ -1,0 +1,4 @@
+pub mod Load
+pub mod LoadLaws
+pub mod Instances
+pub mod Inner

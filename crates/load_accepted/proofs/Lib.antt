@@ -1,0 +1,4 @@
+pub mod Calls
+pub mod Tries
+pub mod LoadAccepted
+pub mod Instances

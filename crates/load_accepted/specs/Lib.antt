@@ -1,0 +1,2 @@
+pub mod LoadAccepted
+pub mod Instances
