@@ -78,7 +78,8 @@ minjolf_answer new_register_state(uint64_t entry_point, uint64_t stack_top, uint
 minjolf_answer collect_copy_register_ops(uint64_t kind, uint64_t timestamp, uint64_t src, uint64_t dst, uint64_t count,
                                          uint64_t state[68], uint64_t records[116]);
 
-/* value: operation records. counts: operation and access records. */
+/* value: operation records, one for each row. A row moves 8 bytes, or 1 where fewer remain or the 8 would lie on both sides of a multiple of
+   4,096, in the source or, for Copy and Set, in the destination. counts: operation and access records. */
 minjolf_answer collect_copy_ops(uint64_t kind, uint64_t timestamp, uint64_t src, uint64_t dst, uint64_t count, uint64_t gap,
                                 uint8_t *bytes, size_t bytes_length, uint64_t *stamps, size_t stamps_length, uint64_t *ops,
                                 size_t ops_length, uint64_t *accesses, size_t accesses_length, uint64_t counts[2]);

@@ -8,6 +8,7 @@ mod exported;
 mod functions;
 mod generate;
 mod inputs;
+mod numbered;
 mod oracle;
 mod protocol;
 mod replay;

@@ -7,6 +7,7 @@
 use crate::generate::programs::question_of;
 use crate::generate::{Generator, carries, load};
 use crate::inputs;
+use crate::numbered;
 use crate::oracle::PRIME;
 use crate::protocol::{self, Argument, Question, Reply};
 use crate::round_trips;
@@ -78,10 +79,11 @@ const PROGRAMS: &[Program] = &[
     },
     Program {
         name: "replay_expansion",
-        numbers: 8_192,
+        numbers: 16_384,
         parts: &[
             part("collect_copy_ops", [2, 1], 300),
             part("generate_load", [1, 3], 110),
+            part(NUMBERED, [0, 0], 0),
         ],
     },
     Program {
@@ -104,6 +106,9 @@ const PROGRAMS: &[Program] = &[
         parts: &[part("round_trip", [1, 2], 1_200)],
     },
 ];
+
+/// The expansion over windows of numbered cells.
+const NUMBERED: &str = "numbered cells";
 
 /// A program reads fewer bytes than this.
 const BYTES: usize = 65_536;
@@ -156,8 +161,8 @@ impl Program {
                 println!("{}: does not ask {}", self.name, part.name);
                 continue;
             }
-            for (arguments, reply) in part.recorded(seed)? {
-                script.add(number, &arguments, &reply);
+            for (arguments, answer) in part.recorded(seed)? {
+                script.add(number, &arguments, &answer);
             }
         }
         if script.questions.len() >= BYTES || script.numbers > self.numbers {
@@ -168,12 +173,12 @@ impl Program {
 }
 
 impl Script {
-    fn add(&mut self, function: usize, arguments: &[Argument], reply: &Reply) {
+    fn add(&mut self, function: usize, arguments: &[Argument], answer: &str) {
         self.asked += 1;
         self.numbers += 1 + protocol::size(arguments);
         let parameters = protocol::written(arguments);
         let _ = writeln!(self.questions, "{function}{parameters}");
-        self.answers += &reply.line().replace(' ', "\n");
+        self.answers += &answer.replace(' ', "\n");
         self.answers.push('\n');
     }
 
@@ -189,19 +194,29 @@ impl Part {
         match self.name {
             "callcheck" => "callcheck_text::answer(".into(),
             "round_trip" => "round_trip::round_trip(".into(),
+            NUMBERED => "fn expand_numbered(".into(),
             name => format!("::{name}("),
         }
     }
 
-    /// The parameters and the reply of each question.
-    fn recorded(&self, seed: u64) -> Result<Vec<(Vec<Argument>, Reply)>, String> {
-        if self.name == "round_trip" {
-            let most = [self.answered, self.refused];
-            return Ok(round_trips::recorded(seed, most, self.longest));
-        }
-        let questions = self.questions(seed)?.into_iter();
-        let arguments = |(question, reply): (Question, Reply)| (question.arguments, reply);
-        Ok(questions.map(arguments).collect())
+    /// The parameters and the answer of each question.
+    fn recorded(&self, seed: u64) -> Result<Vec<(Vec<Argument>, String)>, String> {
+        let replies = match self.name {
+            NUMBERED => return Ok(numbered::recorded()),
+            "round_trip" => {
+                let most = [self.answered, self.refused];
+                round_trips::recorded(seed, most, self.longest)
+            }
+            _ => {
+                let questions = self.questions(seed)?.into_iter();
+                let arguments = |(question, reply): (Question, Reply)| (question.arguments, reply);
+                questions.map(arguments).collect()
+            }
+        };
+        let lines = replies
+            .into_iter()
+            .map(|(arguments, reply)| (arguments, reply.line()));
+        Ok(lines.collect())
     }
 
     /// The questions that are always asked, then so many of each class.

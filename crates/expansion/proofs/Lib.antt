@@ -8,3 +8,4 @@ pub mod Copied
 pub mod SetMoves
 pub mod Consequences
 pub mod Computing
+pub mod RowNumbers

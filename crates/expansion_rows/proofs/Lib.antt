@@ -1,5 +1,6 @@
 pub mod Width
 pub mod Widths
+pub mod WidthRule
 pub mod RowList
 pub mod Lengths
 pub mod OneTurn

@@ -1,4 +1,5 @@
 pub mod Rows
+pub mod WidthRule
 pub mod Turns
 pub mod Held
 pub mod Inner

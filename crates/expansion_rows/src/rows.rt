@@ -8,15 +8,32 @@ ghost use Rattle.words.specs.Words.{bit};
 ghost use Rattle.call.specs.Inner.{callOf};
 ghost use Rattle.call.specs.Ops.{opRecord};
 ghost use Rattle.call.specs.Cuts.{rest};
-ghost use Rattle.expansion_rows.specs.Rows.{copyRowWidth, widthsOf};
+ghost use Rattle.expansion_rows.specs.Rows.{onePage, isWide, copyRowWidth, widthsOf};
 use call::CopyCall;
 use window::accesses::byte_words;
+
+// From one edge to the next.
+const PAGE: u64 = 4096;
+
+// Whether eight bytes from a on lie between two neighbouring edges. No sum: a may be any number.
+fn one_page(a: u64) -> bool
+    ensures { λ r. ⌜ r ≡ onePage a ⌝ }
+{
+    a % PAGE <= PAGE - 8
+}
+
+// Whether the next row moves eight bytes; a Write's dst is an index, and not judged.
+fn is_wide(call: CopyCall) -> bool
+    ensures { λ r. ⌜ r ≡ isWide (callOf call) ⌝ }
+{
+    (8 <= call.count) & (one_page(call.src) & ((call.kind == 2) | one_page(call.dst)))
+}
 
 // How many bytes the next row moves.
 pub fn copy_row_width(call: CopyCall) -> u64
     ensures { λ r. ⌜ r ≡ copyRowWidth (callOf call) ⌝ }
 {
-    if 8 <= call.count { 8 } else { 1 }
+    if is_wide(call) { 8 } else { 1 }
 }
 
 // What remains of a call after a row of that width.

@@ -1,6 +1,6 @@
 -- One call of a load: its numbers fit their types, it lies in a window of 1,024 cells, and with room for its records it is accepted.
 -- Assumes nothing.
-use mathlib.Core.Path.{_≡_, refl, sym, _∙_}
+use mathlib.Core.Path.{_≡_, refl, sym, ap, _∙_}
 use mathlib.Core.Bool.{Bool, true, false, cond}
 use mathlib.Core.Logic.{inl, inr}
 use mathlib.Core.List.{List, [], _∷_}
@@ -24,7 +24,9 @@ use Rattle.expansion_rows.proofs.Widths.{widths-cut}
 use Rattle.expansion.specs.Tries.{Lent, Lengths, lengths, tryOf}
 use Rattle.expansion.specs.Refusals.{opCount, accessCount, bufferShort}
 use Rattle.expansion.proofs.Judged.{Fair, Room, fair-accepted}
-use Rattle.load_accepted.specs.LoadAccepted.{loadSetting, LoadWindow, LongEnough, Welcome, Small}
+use Rattle.expansion.proofs.RowNumbers.{plain-inside, plain-rows}
+use Rattle.load_accepted.specs.LoadAccepted.{CELLS, loadSetting, LoadWindow, LongEnough, Welcome, Small}
+use Rattle.load_accepted.specs.LoadRows.{NoEdgeMet}
 
 -- what 9 says of the buffers
 room-of : (c : Call) (n : Lengths) → bufferShort (opCount c) (accessCount c) n ≡ false → Room c n
@@ -123,3 +125,14 @@ module _ (s k : ℕ) (h : k < LIMIT) where
   pub call-accepted : Welcome (loadCall s k)
   call-accepted l long =
       fair-accepted loadSetting (loadCall s k) (lengths l) (call-fair l (long .window)) (room-of (loadCall s k) (lengths l) (long .room))
+
+  -- its window ends before the first edge
+  pub call-rows : NoEdgeMet (loadCall s k)
+  call-rows =
+      let c = loadCall s k in
+      let plain =
+      plain-inside c CELLS (omega arith)
+      (λ some. omega (arith, call-src s k, call-count s k))
+      (λ some other. omega (arith, dest other, call-count s k)) in
+      let rows = ap (λ (ws : List ℕ). length ws) plain in
+      record { plain = plain; ten = omega (arith, rows, plain-rows (c .count), call-count s k) }

@@ -23,7 +23,8 @@ use Rattle.calls_in_turn.proofs.Typed.{tries-typed, calls-handed}
 use Rattle.whole_calls.specs.Demand.{Passes, ReadsBack}
 use Rattle.whole_calls.proofs.Demand.{demand3}
 use Rattle.load_accepted.specs.LoadAccepted.{loadSetting, Welcome, Small, TriesOfLoad, LongForAll, AllBytes, LoadAccepted}
-use Rattle.load_accepted.proofs.Calls.{call-fits, call-enough, call-accepted}
+use Rattle.load_accepted.specs.LoadRows.{NoEdgeMet, LoadRows}
+use Rattle.load_accepted.proofs.Calls.{call-fits, call-enough, call-accepted, call-rows}
 use Rattle.load_accepted.proofs.Tries.{all-accepted, tries-welcome, calls-of-tries, calls-in-turn, turns-long}
 
 module _ (s n : ℕ) (few : n ≤ LIMIT) where
@@ -83,3 +84,6 @@ load-accepted =
       in-turn-bytes = in-turn-bytes;
       handed = λ s n few. calls-handed (loadCalls s n) (fit s n few);
     }
+
+pub load-rows : LoadRows
+load-rows s n few = all-listed NoEdgeMet (loadCall s) 0 n (λ k a b. call-rows s k (omega arith))

@@ -1,2 +1,3 @@
 pub mod LoadAccepted
+pub mod LoadRows
 pub mod Instances

@@ -13,8 +13,10 @@ ghost use Rattle.load.specs.LoadLaws.{LoadLaws};
 ghost use Rattle.load.specs.Instances.{Instances as LoadInstances};
 ghost use Rattle.reg_access.specs.RegAccess.{RouteByInputs};
 ghost use Rattle.routing.specs.InOrder.{RoutedInOrder};
+ghost use Rattle.expansion_rows.specs.WidthRule.{WidthRule, WidthCases};
 ghost use Rattle.expansion_rows.specs.RowsCut.{RowsAreCut};
 ghost use Rattle.expansion.specs.Consequences.{Consequences};
+ghost use Rattle.expansion.specs.RowNumbers.{RowNumbers, RowNumberCases};
 ghost use mathlib.Core.List.{List};
 ghost use Rattle.call.specs.Calls.{Call};
 ghost use Rattle.expansion.specs.Tries.{Setting, Lent};
@@ -90,6 +92,20 @@ pub fn route_by_inputs_holds() -> bool
 // "Three lists in arrival order", and no record lost.
 pub fn routed_in_order_holds() -> bool
     ensures { λ r. ⌜ (r ≡ true) × RoutedInOrder ⌝ }
+{
+    true
+}
+
+// Document 02's width rule in its own words, asked anew at each row, and its two cases.
+pub fn width_rule_holds() -> bool
+    ensures { λ r. ⌜ (r ≡ true) × WidthRule × WidthCases ⌝ }
+{
+    true
+}
+
+// How many rows the rule gives, and 9 by their number.
+pub fn row_numbers_hold() -> bool
+    ensures { λ r. ⌜ (r ≡ true) × RowNumbers × RowNumberCases ⌝ }
 {
     true
 }

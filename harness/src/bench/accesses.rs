@@ -8,7 +8,7 @@ use crate::generate::records;
 use crate::oracle::records::{
     ACCESS, OPERATION, REGISTER, access_of, access_record, operation_record, register_record,
 };
-use crate::oracle::{self, Answer};
+use crate::oracle::{self, Answer, row_widths};
 use crate::rng::Rng;
 use original::tables::copy::{CopyOperation, Functionality};
 use original::tables::memw::MemwOperation;
@@ -137,13 +137,21 @@ impl Steps {
 }
 
 /// One call that moves as many bytes as asked, in a window of 65,536 cells. The window
-/// goes on from turn to turn on both sides.
+/// goes on from turn to turn on both sides, and is the same after each but the first. The
+/// last two calls come to every edge in the middle of a row.
 pub fn expansion(report: &mut Report) {
     if !report.wants("collect_copy_ops") {
         return;
     }
-    for (kind, (name, functionality)) in KINDS.into_iter().enumerate() {
-        let times = SIZES.map(|count| expand(kind as u64, functionality, count as u64));
+    let calls = [
+        ("Copy", 0, [0, 0]),
+        ("Set", 1, [0, GAP]),
+        ("Write", 2, [0, 0]),
+        ("Copy from 3 to 3", 0, [3, 3]),
+        ("Set from 3 to 11", 1, [3, 3 + GAP]),
+    ];
+    for (name, kind, places) in calls {
+        let times = SIZES.map(|count| expand(kind, places, count as u64));
         report.sizes(
             &format!("collect_copy_ops, {name}, bytes"),
             "original",
@@ -158,17 +166,15 @@ const JUNK: u64 = 1;
 const CELLS: usize = 1 << 16;
 const GAP: u64 = 8;
 
-fn expand(kind: u64, functionality: Functionality, count: u64) -> Times {
-    // A Set's destination lies a gap further, so it moves a gap less.
-    let (dst, count) = match kind {
-        1 => (GAP, count - GAP),
-        _ => (0, count),
-    };
-    let mut lent = Expanded::new(count as usize / 8);
+fn expand(kind: usize, [src, dst]: [u64; 2], count: u64) -> Times {
+    // So much less that source and destination end in the window.
+    let count = count - src.max(dst).next_multiple_of(8);
+    let rows = row_widths(kind as u64, src, dst, count).len();
+    let mut lent = Expanded::new(rows);
     let mut window = Window::new(&lent.bytes, &lent.stamps);
     let mut made = None;
-    let mut ours = || lent.turn(kind, dst, count);
-    let mut rust = || made = Some(window.expand(functionality, 1000, [0, dst, count]));
+    let mut ours = || lent.turn(kind as u64, [src, dst, count]);
+    let mut rust = || made = Some(window.expand(KINDS[kind].1, 1000, [src, dst, count]));
     ours();
     rust();
     let times = race_two(count as usize, &mut ours, &mut rust);
@@ -204,10 +210,10 @@ impl Expanded {
     }
 
     #[rustfmt::skip]
-    fn turn(&mut self, kind: u64, dst: u64, count: u64) {
+    fn turn(&mut self, kind: u64, [src, dst, count]: [u64; 3]) {
         let Self { bytes, stamps, ops, accesses, counts, .. } = self;
         self.answer = black_box(exported::collect_copy_ops(
-            kind, 1000, 0, dst, count, GAP, bytes, stamps, ops, accesses, counts,
+            kind, 1000, src, dst, count, GAP, bytes, stamps, ops, accesses, counts,
         ));
     }
 

@@ -1,6 +1,7 @@
 //! What one function's run has seen, and what it should have.
 
 use crate::generate::carries;
+use crate::generate::edges;
 use crate::generate::long::EDGES;
 use crate::oracle::records::{ACCESS, OPERATION, REGISTER};
 use crate::oracle::{COPY_COLUMNS, LIST_LIMIT};
@@ -46,6 +47,9 @@ pub struct Tally {
     high_words: BTreeSet<u64>,
     /// The first numbers of the loads that were made.
     seeds: BTreeSet<u64>,
+    /// Accepted calls that an edge cuts into other rows, and their kinds, edges and gaps.
+    otherwise_cut: u64,
+    met: BTreeSet<[u64; 3]>,
 }
 
 impl Tally {
@@ -65,6 +69,8 @@ impl Tally {
             carries: [0; carries::ADDRESSES],
             high_words: BTreeSet::new(),
             seeds: BTreeSet::new(),
+            otherwise_cut: 0,
+            met: BTreeSet::new(),
         }
     }
 
@@ -97,6 +103,7 @@ impl Tally {
         if self.name == "collect_copy_ops" && number == 0 {
             let all = Argument::Number(LIST_LIMIT as u64);
             self.whole_windows += u64::from(question.arguments[4] == all);
+            self.saw_rows(question, &reply.lent[2]);
         }
         if self.name == carries::MAKER && number == 0 {
             self.saw_addresses(question);
@@ -113,6 +120,30 @@ impl Tally {
                 self.high_words.insert(address >> 32);
             }
         }
+    }
+
+    /// Looks at the widths of an accepted call's rows: without an edge those of 8 come first.
+    fn saw_rows(&mut self, question: &Question, ops: &[u64]) {
+        let number = |place: usize| match question.arguments[place] {
+            Argument::Number(number) => number,
+            Argument::List(_) => unreachable!("a call's numbers come first"),
+        };
+        let [kind, src, dst, count, gap] = [0, 2, 3, 4, 5].map(number);
+        let mut eights = ops.chunks_exact(OPERATION).take(count as usize / 8);
+        if eights.all(|record| record[4] == 8) {
+            return;
+        }
+        self.otherwise_cut += 1;
+        for edge in edges::inside(kind, src, dst, count) {
+            self.met.insert([kind, edge, gap]);
+        }
+    }
+
+    /// Which kinds of call did not meet which edge under which gap.
+    fn unmet(&self) -> impl Iterator<Item = [u64; 3]> {
+        let all = (0..3).flat_map(|kind| edges::EDGES.map(|edge| [kind, edge]));
+        let all = all.flat_map(|[kind, edge]| edges::GAPS.map(|gap| [kind, edge, gap]));
+        all.filter(|met| !self.met.contains(met))
     }
 
     /// What should have occurred and did not, or occurred and should not have.
@@ -141,6 +172,15 @@ impl Tally {
             faults.push(format!(
                 "{name}: no call of a whole window of {LIST_LIMIT} cells"
             ));
+        }
+        if name == "collect_copy_ops" {
+            let unmet = self.unmet().map(|[kind, edge, gap]| {
+                format!("{name}: no call of kind {kind} cut at {edge} under the gap {gap}")
+            });
+            faults.extend(unmet);
+            if 3 * self.otherwise_cut < self.cases {
+                faults.push(format!("{name}: fewer than a third cut at an edge"));
+            }
         }
         if name == "generate_load" && self.seeds.len() < SEEDS {
             faults.push(format!("{name}: fewer than {SEEDS} seeds"));
@@ -215,6 +255,7 @@ impl Tally {
                 self.whole_windows,
                 "calls of a whole window of 65,536 cells",
             ),
+            (self.otherwise_cut, "calls cut into other rows at an edge"),
             (self.whole_rows, "rows asked for all their residues"),
             (self.in_turn, "in turn over what the call before left"),
         ];

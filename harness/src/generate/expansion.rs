@@ -3,7 +3,7 @@
 
 use super::long::{Shape, log_scaled};
 use super::numbers::{bad_gap, edge, gap, junk};
-use crate::oracle::LIST_LIMIT;
+use crate::oracle::{LIST_LIMIT, row_widths};
 use crate::protocol::{Argument, Question, Reply};
 use crate::rng::Rng;
 
@@ -15,17 +15,17 @@ pub struct Window {
 }
 
 /// A call with what it finds, before it is written as a question.
-struct Draft {
-    kind: u64,
-    timestamp: u64,
-    src: u64,
-    dst: u64,
-    count: u64,
-    gap: u64,
+pub(super) struct Draft {
+    pub(super) kind: u64,
+    pub(super) timestamp: u64,
+    pub(super) src: u64,
+    pub(super) dst: u64,
+    pub(super) count: u64,
+    pub(super) gap: u64,
     /// Numbers short of the result, of the operation and the access buffer.
-    short: [usize; 2],
+    pub(super) short: [usize; 2],
     /// Buffers are made for no more bytes than this; a call of more is refused by 2.
-    most: u64,
+    pub(super) most: u64,
 }
 
 impl Window {
@@ -81,6 +81,24 @@ impl Window {
         self.ask(rng, draft, window)
     }
 
+    /// A call that is drafted; if a refusal is named, one that meets it.
+    pub(super) fn asked_for(
+        &mut self,
+        rng: &mut Rng,
+        mut draft: Draft,
+        refusal: Option<u64>,
+    ) -> (Question, Reply) {
+        let mut window = [self.bytes.clone(), self.stamps.clone()];
+        if let Some(number) = refusal {
+            draft.cause(rng, number, &mut window);
+        }
+        self.ask(rng, draft, window)
+    }
+
+    pub(super) fn cells(&self) -> usize {
+        self.bytes.len()
+    }
+
     /// Asks, and goes on from the reply.
     fn ask(&mut self, rng: &mut Rng, draft: Draft, window: [Vec<u64>; 2]) -> (Question, Reply) {
         let question = draft.question(rng, window);
@@ -102,7 +120,7 @@ impl Window {
     }
 
     /// A new window of so many cells.
-    fn fill(&mut self, rng: &mut Rng, cells: usize) {
+    pub(super) fn fill(&mut self, rng: &mut Rng, cells: usize) {
         self.bytes = rng.many(cells, |rng| rng.below(256));
         let common = edge(rng);
         self.stamps = rng.many(cells, |rng| if rng.once_in(3) { edge(rng) } else { common });
@@ -158,7 +176,7 @@ fn refusals(rng: &mut Rng) -> u64 {
 }
 
 /// A place less than twenty cells away.
-fn near(rng: &mut Rng, place: u64) -> u64 {
+pub(super) fn near(rng: &mut Rng, place: u64) -> u64 {
     (place + rng.below(20)).saturating_sub(rng.below(20))
 }
 
@@ -216,7 +234,7 @@ impl Draft {
     /// by 2, and its result has no size to speak of.
     fn results(&self) -> [usize; 2] {
         let count = self.count.min(self.most);
-        let rows = (count / 8 + count % 8) as usize;
+        let rows = row_widths(self.kind, self.src, self.dst, count).len();
         let accesses = if self.kind == 2 { rows } else { 2 * rows };
         [16 * rows.max(1), 29 * accesses]
     }

@@ -2,6 +2,7 @@
 
 pub mod calls;
 pub mod carries;
+pub mod edges;
 mod expansion;
 pub mod lists;
 pub mod load;
@@ -17,6 +18,7 @@ mod solve;
 
 use crate::protocol::{FUNCTIONS, Question, Reply};
 use crate::rng::Rng;
+use edges::Edges;
 use long::Long;
 use std::collections::VecDeque;
 
@@ -31,6 +33,8 @@ pub struct Generator {
     first: VecDeque<Question>,
     /// Lists of all lengths between the short ones, or none.
     long: Option<Long>,
+    /// Calls around the edges of pages between the others, or none.
+    edges: Option<Edges>,
 }
 
 impl Generator {
@@ -50,15 +54,17 @@ impl Generator {
             registers: Default::default(),
             first: VecDeque::new(),
             long: None,
+            edges: None,
         })
     }
 
-    /// The same questions of one function, with lists of all lengths between them, and
-    /// these before them.
+    /// The same questions of one function, between them lists of all lengths and, to the
+    /// expansion, calls around the edges of pages, and these before them.
     pub fn of_all_lengths(kind: &str, seed: u64, first: Vec<Question>) -> Option<Self> {
         Self::new(kind, seed).map(|short| Self {
             first: first.into(),
             long: Some(Long::new(seed)),
+            edges: (kind == "collect_copy_ops").then(|| Edges::new(seed)),
             ..short
         })
     }
@@ -87,6 +93,9 @@ impl Generator {
         }
         if let Some(asked) = self.long.as_mut().and_then(|long| long.question(kind)) {
             return asked;
+        }
+        if let Some((question, reply)) = self.edges.as_mut().and_then(Edges::question) {
+            return (question, Some(reply));
         }
         self.asked += 1;
         let in_turn = match kind {

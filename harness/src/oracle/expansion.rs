@@ -5,6 +5,7 @@ use super::records::{access_record, kind_of, operation_record};
 use super::{
     Answer, GAP_LIMIT, LIST_LIMIT, Outcome, Refusal, refuse_if, refuse_short, write_front,
 };
+use executor::vm::instruction::execution::copy_row_width;
 use original::tables::copy::Functionality;
 use original::tables::trace_builder::Window;
 
@@ -68,4 +69,15 @@ fn judge_call(
         2,
     )?;
     Ok(kind)
+}
+
+/// The widths of a call's rows by the executor's rule, for any numbers; none for count 0.
+pub fn row_widths(kind: u64, src: u64, dst: u64, count: u64) -> Vec<u64> {
+    let (mut offset, mut widths) = (0, Vec::new());
+    while offset < count {
+        let width = copy_row_width(src, dst, offset, count - offset, kind == 2);
+        widths.push(u64::from(width));
+        offset += u64::from(width);
+    }
+    widths
 }

@@ -18,7 +18,7 @@ mod tables;
 pub use access::{push_reg_access, route_accesses, route_by_words};
 pub use callcheck::callcheck;
 pub use chain::{chain_check, read_back, row_check};
-pub use expansion::collect_copy_ops;
+pub use expansion::{collect_copy_ops, row_widths};
 pub use field::{field_add, field_mul, field_sub};
 pub use load::{generate_load, load};
 pub use math::field::goldilocks::PRIME;

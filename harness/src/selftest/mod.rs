@@ -6,6 +6,7 @@ mod examples;
 mod lists;
 mod load;
 mod replies;
+mod widths;
 
 use std::collections::BTreeMap;
 use std::fmt::Display;
@@ -74,5 +75,6 @@ pub fn run(seed: u64, count: u64) -> (String, u64) {
     lists::run(&mut report, seed, count);
     load::run(&mut report, seed, count);
     replies::run(&mut report, seed, count);
+    widths::run(&mut report, seed, count);
     (report.text, report.failures)
 }

@@ -24,15 +24,28 @@ pub mod vm {
             /// no other constant of copy.rs is 2^63.
             pub const DMA_MEMSET_GAP: u64 = 1 << 63;
 
-            /// Document 01, 'Expansion': 8 if 8 or more remain, else 1.
+            /// From one edge to the next.
+            const PAGE: u64 = 4096;
+
+            /// Whether the eight bytes from here on lie on both sides of an edge. 2^64 is
+            /// one too.
+            fn crosses(start: u64) -> bool {
+                start / PAGE != start.wrapping_add(7) / PAGE
+            }
+
+            /// Document 02, request 4: 8 if 8 or more bytes remain and neither the row's
+            /// source bytes nor, unless it is a Write, its destination bytes lie on both
+            /// sides of a multiple of 4,096; else 1.
             pub fn copy_row_width(
-                _src: u64,
-                _dst: u64,
-                _offset: u64,
+                src: u64,
+                dst: u64,
+                offset: u64,
                 remaining: u64,
-                _is_write: bool,
+                is_write: bool,
             ) -> u8 {
-                if remaining >= 8 { 8 } else { 1 }
+                let crosses = crosses(src.wrapping_add(offset))
+                    || (!is_write && crosses(dst.wrapping_add(offset)));
+                if remaining >= 8 && !crosses { 8 } else { 1 }
             }
         }
     }
