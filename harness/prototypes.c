@@ -99,6 +99,7 @@ ON_RECORDS(generate_copy_trace)
 ON_RECORDS(generate_memw_trace)
 ON_RECORDS(generate_memw_aligned_trace)
 ON_RECORDS(generate_memw_register_trace)
+ON_RECORDS(register_lookups)
 UNDER_GAP(chain_check)
 UNDER_GAP(row_check)
 
@@ -240,6 +241,7 @@ static const struct {
     {"generate_memw_aligned_trace", ask_generate_memw_aligned_trace},
     {"generate_memw_register_trace", ask_generate_memw_register_trace},
     {"route_accesses", ask_route_accesses},
+    {"register_lookups", ask_register_lookups},
     {"push_reg_access", ask_push_reg_access},
     {"new_register_state", ask_new_register_state},
     {"collect_copy_register_ops", ask_collect_copy_register_ops},

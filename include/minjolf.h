@@ -27,6 +27,7 @@ enum {
     MINJOLF_OP_WIDTH = 16,
     MINJOLF_ACCESS_WIDTH = 29,
     MINJOLF_REGISTER_WIDTH = 8,
+    MINJOLF_PAIR_WIDTH = 2,
     MINJOLF_CALL_WIDTH = 5, /* as read-back writes it */
     MINJOLF_HANDED_WIDTH = 5, /* as it is handed in */
     MINJOLF_COPY_COLUMNS = 41,
@@ -66,6 +67,10 @@ minjolf_answer generate_memw_register_trace(const uint64_t *records, size_t reco
 minjolf_answer route_accesses(const uint64_t *accesses, size_t accesses_length, uint64_t *register_list, size_t register_length,
                               uint64_t *aligned, size_t aligned_length, uint64_t *general, size_t general_length,
                               uint64_t counts[3]);
+
+/* lookups: a pair for each access that goes to the register table, in arrival order: low byte, then high byte, of the low stamp difference
+ * less one. Refuses as route_accesses does, with 8, then record by record 10 and 11 (place: the record), then 9. value: pairs. */
+minjolf_answer register_lookups(const uint64_t *accesses, size_t accesses_length, uint64_t *lookups, size_t lookups_length);
 
 /* value: the route, 0 register (8 numbers written), 1 aligned, 2 general (29 written). */
 minjolf_answer push_reg_access(uint64_t reg_addr, uint32_t val0, uint32_t val1, uint32_t old0, uint32_t old1, uint64_t timestamp,

@@ -64,6 +64,12 @@ mod c {
             general_length: usize,
             counts: *mut u64,
         ) -> Answer;
+        pub fn register_lookups(
+            accesses: *const u64,
+            accesses_length: usize,
+            lookups: *mut u64,
+            lookups_length: usize,
+        ) -> Answer;
         pub fn push_reg_access(
             reg_addr: u64,
             val0: u32,
@@ -249,6 +255,13 @@ pub fn route_accesses(
         aligned.as_mut_ptr(), aligned.len(),
         general.as_mut_ptr(), general.len(),
         counts.as_mut_ptr(),
+    ))
+}
+
+#[rustfmt::skip]
+pub fn register_lookups(accesses: &[u64], lookups: &mut [u64]) -> Answer {
+    call!(exported_register_lookups, register_lookups(
+        accesses.as_ptr(), accesses.len(), lookups.as_mut_ptr(), lookups.len(),
     ))
 }
 

@@ -47,6 +47,7 @@ pub const FUNCTIONS: &[Function] = &[
     ("generate_memw_aligned_trace", &[Slice, Lent], &[8, 9, 10]),
     ("generate_memw_register_trace", &[Slice, Lent], &[8, 9, 10]),
     ("route_accesses", &[Slice, Lent, Lent, Lent, LentArray(3)], &[8, 9, 10, 11]),
+    ("register_lookups", &[Slice, Lent], &[8, 9, 10, 11]),
     ("push_reg_access",
         &[Number, Word, Word, Word, Word, Number, Number, Number, LentArray(29)], &[10, 11]),
     ("new_register_state", &[Number, Number, LentArray(68)], &[]),

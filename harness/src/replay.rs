@@ -5,7 +5,7 @@
 //! then each lent slice afterwards as its length and its numbers, one number to a line.
 
 use crate::generate::programs::question_of;
-use crate::generate::{Generator, carries, load};
+use crate::generate::{Generator, carries, load, lookups};
 use crate::inputs;
 use crate::numbered;
 use crate::oracle::PRIME;
@@ -75,6 +75,7 @@ const PROGRAMS: &[Program] = &[
             part("push_reg_access", [4, 1], 40),
             part("new_register_state", [1, 0], 80),
             part("collect_copy_register_ops", [1, 1], 200),
+            part(lookups::LOOKUPS, [1, 1], 100),
         ],
     },
     Program {
@@ -270,7 +271,7 @@ fn class(question: &Question, reply: &Reply) -> [u64; 2] {
         "collect_copy_register_ops" => numbers[0],
         // The kind, and whether the call is empty, narrow rows only, or has wide ones.
         "collect_copy_ops" => 3 * numbers[0] + numbers[4].min(8).div_ceil(7),
-        "push_reg_access" | "chain_check" | "read_back" => answer.value,
+        "push_reg_access" | lookups::LOOKUPS | "chain_check" | "read_back" => answer.value,
         // FIRST to MU, which are bits in a row that passes.
         "row_check" => row_of(question)[32..39]
             .iter()
@@ -312,6 +313,7 @@ fn fixed(name: &str) -> Result<Vec<Question>, String> {
         "callcheck" => Ok(inputs::recorded()?.into_iter().map(question_of).collect()),
         carries::MAKER => Ok(carries::at_each_address()),
         "generate_load" => Ok(load::always()),
+        lookups::LOOKUPS => Ok(lookups::always()),
         _ => Ok(Vec::new()),
     }
 }

@@ -27,6 +27,7 @@ pub struct Side {
     generate_memw_aligned_trace: Maker,
     generate_memw_register_trace: Maker,
     route_accesses: fn(&[u64], &mut [u64], &mut [u64], &mut [u64], &mut [u64; 3]) -> Answer,
+    register_lookups: Maker,
     push_reg_access: fn(u64, u32, u32, u32, u32, u64, u64, u64, &mut [u64; 29]) -> Answer,
     new_register_state: fn(u64, u64, &mut [u64; 68]) -> Answer,
     collect_copy_register_ops:
@@ -47,7 +48,7 @@ macro_rules! side {
         copy_residue memw_residue memw_aligned_residue memw_register_residue add_pair
         generate_copy_trace generate_memw_trace
         generate_memw_aligned_trace generate_memw_register_trace
-        route_accesses push_reg_access
+        route_accesses register_lookups push_reg_access
         new_register_state collect_copy_register_ops
         collect_copy_ops generate_load chain_check row_check read_back
     } };
@@ -90,6 +91,7 @@ impl Side {
             "row_check" => (self.row_check)(n[0], s[0]),
             "new_register_state" => (self.new_register_state)(n[0], n[1], array(&mut lent[0])),
             "generate_load" => (self.generate_load)(n[0], n[1], &mut lent[0]),
+            "register_lookups" => (self.register_lookups)(s[0], &mut lent[0]),
             name if name.starts_with("generate_") => self.table(name, s[0], &mut lent[0]),
             name => self.lent(name, n, &s, lent),
         }

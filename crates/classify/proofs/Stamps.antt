@@ -1,17 +1,18 @@
 -- What the tests of stamps come to that ask no branch. Document 01: "low difference 1 to 65,536", and "the first width old stamps agree", width
 -- by width. Assumes nothing.
-use mathlib.Core.Path.{_≡_, refl}
-use mathlib.Core.Bool.{Bool, true, false, cond, not, _&&_, _||_}
+use mathlib.Core.Path.{_≡_, refl, sym}
+use mathlib.Core.Bool.{Bool, true, false, cond, not, _&&_, _||_, and-eq-true-iff, true≢false}
 use mathlib.Core.List.{List}
-use Prim.Native.Nat.{ℕ, _+_, _-_}
+use Prim.Native.Nat.{ℕ, _+_, _-_, _≤_, _<_}
 use native.Mathlib.Omega.{arith}
 use borrow.Author.Tests.{ltb-true, leb-true, lt-ltb, le-leb, eq-eqb}
 use lib.Dec.{eqb, ltb, leb}
 use Rattle.lists.specs.Lists.{first, at}
 use Rattle.lists.proofs.Tests.{same-test}
-use Rattle.access.specs.Access.{WIDTH, OLD-TIMESTAMP, isWidth}
+use Rattle.words.specs.Words.{lowWord, highWord}
+use Rattle.access.specs.Access.{IS-REGISTER, TIMESTAMP, WIDTH, OLD-TIMESTAMP, isWidth}
 use Rattle.access.proofs.Good.{by-width}
-use Rattle.classify.specs.Classify.{otherStamp, stampsAgree}
+use Rattle.classify.specs.Classify.{deltaInRange, isRegisterOp, otherStamp, stampsAgree}
 
 -- The low difference
 
@@ -28,6 +29,28 @@ difference-in-range new old = λ i. above i && near i
         same-test (leb new (old + 65536)) (leb (new - old) 65536)
         (λ e. le-leb (new - old) 65536 (omega (arith, leb-true new (old + 65536) e)))
         (λ e. le-leb new (old + 65536) (omega (arith, leb-true (new - old) 65536 e)))
+
+-- stamps that are in range
+pub delta-bounds : (new old : ℕ) → deltaInRange new old ≡ true → (lowWord old < lowWord new) × (lowWord new ≤ lowWord old + 65536)
+unfolding deltaInRange
+delta-bounds new old e =
+    let d = lowWord new - lowWord old in
+    let low = and-eq-true-iff (eqb (highWord new) (highWord old)) (leb 1 d && leb d 65536) .0 e .1 in
+    let both = and-eq-true-iff (leb 1 d) (leb d 65536) .0 low in
+    (omega (arith, leb-true 1 d (both .0)), omega (arith, leb-true d 65536 (both .1)))
+
+-- those of a register access are
+pub register-delta : (r : List ℕ) → isRegisterOp r ≡ true → deltaInRange (at r TIMESTAMP) (at r OLD-TIMESTAMP) ≡ true
+unfolding isRegisterOp
+register-delta r e =
+    last (eqb (at r IS-REGISTER) 1) (eqb (at r WIDTH) 2) (eqb (at r OLD-TIMESTAMP) (at r (OLD-TIMESTAMP + 1)))
+    (deltaInRange (at r TIMESTAMP) (at r OLD-TIMESTAMP)) e
+  where
+    last : (a b c d : Bool) → a && (b && (c && d)) ≡ true → d ≡ true
+    last true true true d e = e
+    last true true false d e = absurd (true≢false (sym e))
+    last true false c d e = absurd (true≢false (sym e))
+    last false b c d e = absurd (true≢false (sym e))
 
 -- The old stamps
 

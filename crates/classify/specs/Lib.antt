@@ -1,3 +1,4 @@
 pub mod Classify
 pub mod TableRecord
 pub mod RouteExamples
+pub mod RouteLaws

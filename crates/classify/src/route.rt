@@ -1,6 +1,6 @@
 // Internal to the workspace, not open to callers: the route of a good access record, the table that it leads to and its record in that
-// table's list, for the entry of this crate, routing and `push_reg_access`. Assumes nothing but what each `requires` says.
-use crate::MemwRoute;
+// table's list, for the entry of this crate, routing, the lookups and `push_reg_access`. Assumes nothing but what each `requires` says.
+use crate::AccessRoute;
 use access::AccessTable;
 use access::BASE_ADDRESS;
 use access::IS_READ;
@@ -16,21 +16,25 @@ ghost use Prim.Native.Nat.{_%_};
 ghost use lib.ListN.{length};
 ghost use Rattle.lists.specs.Lists.{at};
 ghost use Rattle.access.specs.Access.{WIDTH, ACCESS-WIDTH, isWidth, goodAccess};
-ghost use Rattle.classify.specs.Classify.{deltaInRange, isRegisterOp, stampsAgree, isAlignedOp, classify, tableOf};
+ghost use Rattle.classify.specs.Classify.{deltaInRange, deltaLessOne, isRegisterOp, stampsAgree, isAlignedOp};
+ghost use Rattle.classify.specs.Classify.{accessRoute, memwRoute, tableOf};
 ghost use Rattle.classify.specs.TableRecord.{registerRecord, addressFits};
 
 // The route of an access. Register is decided first, then aligned; the rest is general.
-pub fn classify(op: &[u64]) -> MemwRoute
+pub fn classify(op: &[u64]) -> AccessRoute
     requires { ⌜ goodAccess (now op) ≡ true ⌝ }
-    ensures { λ r. ⌜ r ≡ classify (now (op .entry)) ⌝ }
+    ensures { λ r. ⌜ r ≡ accessRoute (now (op .entry)) ⌝ }
 {
     if is_register_op(op) {
-        return MemwRoute::Register;
+        let less_one = delta_less_one(op[TIMESTAMP], op[OLD_TIMESTAMP]);
+        return AccessRoute::Register {
+            delta_less_one: less_one,
+        };
     }
     if is_aligned_op(op) {
-        return MemwRoute::Aligned;
+        return AccessRoute::Aligned;
     }
-    MemwRoute::General
+    AccessRoute::General
 }
 
 // A two-word register access whose words were written together, not long ago. Here and in the tests below nothing branches: which way an
@@ -52,6 +56,15 @@ pub fn reg_ts_delta_in_range(timestamp: u64, old_ts: u64) -> bool
     let ts_lo = timestamp % 4294967296;
     let old_ts_lo = old_ts % 4294967296;
     (timestamp >> 32 == old_ts >> 32) & ((old_ts_lo < ts_lo) & (ts_lo <= old_ts_lo + 65536))
+}
+
+// The low stamp difference less one, of stamps in range: what the register table's row sends to the half-word lookup,
+// `IS_HALFWORD[timestamp_0 - old_timestamp_lo - 1]` in trace_builder.rs.
+pub fn delta_less_one(timestamp: u64, old_ts: u64) -> u64
+    requires { ⌜ deltaInRange timestamp «old_ts» ≡ true ⌝ }
+    ensures { λ r. ⌜ r ≡ deltaLessOne timestamp «old_ts» ⌝ }
+{
+    timestamp % 4294967296 - old_ts % 4294967296 - 1
 }
 
 // An address that is a multiple of the width, and cells that were written together.
@@ -87,13 +100,13 @@ fn stamps_agree(op: &[u64]) -> bool
 }
 
 // The table that a route leads to.
-pub fn table_of(route: MemwRoute) -> AccessTable
-    ensures { λ r. ⌜ r ≡ tableOf route ⌝ }
+pub fn table_of(route: AccessRoute) -> AccessTable
+    ensures { λ r. ⌜ r ≡ tableOf (memwRoute route) ⌝ }
 {
     match route {
-        MemwRoute::Register => AccessTable::Register,
-        MemwRoute::Aligned => AccessTable::Aligned,
-        MemwRoute::General => AccessTable::General,
+        AccessRoute::Register { delta_less_one: _ } => AccessTable::Register,
+        AccessRoute::Aligned => AccessTable::Aligned,
+        AccessRoute::General => AccessTable::General,
     }
 }
 

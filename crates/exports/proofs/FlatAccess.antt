@@ -14,7 +14,7 @@ use Rattle.reg_access.specs.declared.RegAccess.{RegAccess}
 use Rattle.exports.specs.FlatAccess.{accessAnswer, recordOver, FlatPushed}
 
 module _ (isRead : ℕ) (a : RegAccess) (lent : List ℕ) where
-  pub pushed-answer : isRead ≤ 1 → pushNumbers (a .answer) ≡ accessAnswer isRead a
+  pub pushed-answer : isRead ≤ 1 → pushNumbers (a .answer) .answer ≡ accessAnswer isRead a
   unfolding accessAnswer
   pushed-answer h = rw (le-ltb 1 isRead h)
 

@@ -12,9 +12,9 @@ use Rattle.access.specs.Tables.{REGISTER-WIDTH}
 use Rattle.reg_access.specs.RegAccess.{pushNumbers}
 use Rattle.reg_access.specs.declared.RegAccess.{RegAccess}
 
--- the answer; the value is the route's number
+-- the answer; the value is the number of the Rust's route
 unfoldable pub accessAnswer : ℕ → RegAccess → Answer
-accessAnswer isRead a = cond (ltb 1 isRead) (refused 10 0) (pushNumbers (a .answer))
+accessAnswer isRead a = cond (ltb 1 isRead) (refused 10 0) (pushNumbers (a .answer) .answer)
 
 -- the route's record over the numbers lent: 8 of them for route 0, the register table's, else all 29
 unfoldable pub recordOver : ℕ → List ℕ → List ℕ → List ℕ

@@ -1,4 +1,5 @@
-// `push_reg_access` for callers that have numbers and slices only. Numbers past the route's record keep their values. Assumes nothing.
+// `push_reg_access` for callers that have numbers and slices only. Its route is the Rust's, without the number that a register route carries.
+// Numbers past the route's record keep their values. Assumes nothing.
 use access::REGISTER_WIDTH;
 use answer::Answer;
 use answer::refuse;
@@ -42,7 +43,8 @@ pub extern "C" fn push_reg_access(
         is_read == 1,
     );
     let found = access.answer;
-    let answer = reg_access::numbers(found);
+    let told = reg_access::numbers(found);
+    let answer = told.answer;
     if answer.number != 0 {
         return answer;
     }

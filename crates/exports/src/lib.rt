@@ -13,6 +13,7 @@ ghost use Rattle.field.specs.Answers.{addAnswer, subAnswer, mulAnswer, fieldNum
 ghost use Rattle.load.specs.Load.{LoadDone};
 ghost use Rattle.records.specs.Records.{LIMIT};
 ghost use Rattle.routing.specs.Routing.{lists};
+ghost use Rattle.lookups.specs.Lookups.{LookupsDone};
 ghost use Rattle.memw.specs.Tables.{MemwDone};
 ghost use Rattle.copy_row.specs.Trace.{CopyDone};
 ghost use Rattle.access.specs.declared.AccessTable.the-variants.{General, Aligned, Register};
@@ -173,6 +174,14 @@ pub extern "C" fn route_accesses(
     }
     *counts = [routed.register, routed.aligned, routed.general];
     answer::accept(record_count(accesses, ACCESS_WIDTH) as u64)
+}
+
+// The lookups of the access records, two bytes for each that goes to the register table, or 8, 10, 11, 9; the value is the number of pairs.
+#[no_mangle]
+pub extern "C" fn register_lookups(accesses: &[u64], lookups: &mut [u64]) -> Answer
+    ensures { λ r. ⌜ LookupsDone LIMIT 8 (now (accesses .entry)) (now (lookups .entry)) r (now (lookups .exit)) ⌝ }
+{
+    lookups::numbers(8, lookups::register_lookups(accesses, lookups))
 }
 
 // `emit_add_pair`'s two residues and `add_pair_carry_hi` of flat operands, or 10, 12, 13, 14.

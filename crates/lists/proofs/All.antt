@@ -1,7 +1,8 @@
 -- Laws of what holds of all elements: of lists made of such elements, of each place, and of what is stored. Assumes nothing.
 use mathlib.Core.List.{List, [], _∷_, _++_, map}
-use Prim.Native.Nat.{ℕ, zero, suc, _+_}
-use lib.ListN.{take, drop, getD, set, replicate}
+use Prim.Native.Nat.{ℕ, zero, suc, _+_, _<_}
+use native.Mathlib.Omega.{arith}
+use lib.ListN.{length, take, drop, getD, set, replicate}
 use Rattle.lists.specs.Lists.{All, store}
 
 pub all-of : {A : Type 0} {P : A → Type 0} → ((x : A) → P x) → (xs : List A) → All P xs
@@ -31,6 +32,12 @@ module _ {A : Type 0} (P : A → Type 0) where
 pub all-mapped : {A B : Type 0} (P : B → Type 0) (f : A → B) (xs : List A) → All P (map f xs) → All (λ (x : A). P (f x)) xs
 all-mapped P f [] h = tt
 all-mapped P f (x ∷ xs) h = (h .0, all-mapped P f xs (h .1))
+
+-- of the element in each place
+pub all-at : {A : Type 0} (P : A → Type 0) (d : A) (xs : List A) → All P xs → (i : ℕ) → i < length xs → P (getD xs i d)
+all-at P d [] h i z = absurd (omega arith)
+all-at P d (x ∷ xs) h zero z = h .0
+all-at P d (x ∷ xs) h (suc i) z = all-at P d xs (h .1) i (omega arith)
 
 -- Of numbers, by their places
 

@@ -94,6 +94,15 @@ flat-listed f h (suc n) =
 
 -- Those that meet a test
 
+pub all-kept : {A : Type 0} (test : A → Bool) (xs : List A) → All (λ (x : A). test x ≡ true) (kept test xs)
+unfolding kept
+all-kept test [] = tt
+all-kept test (x ∷ xs) = step (test x) refl (all-kept test xs)
+  where
+    step : (b : Bool) → test x ≡ b → All (λ y. test y ≡ true) (kept test xs) → All (λ y. test y ≡ true) (cond b (x ∷ kept test xs) (kept test xs))
+    step true e h = (e, h)
+    step false e h = h
+
 kept-joined : {A : Type 0} (test : A → Bool) (f : A → List ℕ) (xs : List A)
     → flatMap (λ x. cond (test x) (f x) []) xs ≡ flatMap f (kept test xs)
 unfolding kept flatMap

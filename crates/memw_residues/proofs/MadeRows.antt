@@ -17,7 +17,7 @@ use Rattle.field.specs.Field.{addP, bitP}
 use Rattle.field.proofs.Laws.{bit-zero}
 use Rattle.access.specs.Access.{Access, WIDTH, IS-READ, accessOf, isWidth}
 use Rattle.access.proofs.Good.{by-width, good-width, good-read}
-use Rattle.words.proofs.Bits.{bit-small}
+use Rattle.words.proofs.Bits.{bit-small, one-of-two}
 use Rattle.memw.specs.MemwColumns as general
 use Rattle.memw.specs.Rows.{carries, memwRow, alignedRow, registerRow}
 use Rattle.memw.specs.Tables.{goodRecord, recordRow, tablePadding}
@@ -47,15 +47,12 @@ flagsOf width isRead =
       write8 = bit (eqb width 8);
     }
 
-one-set : (n : ℕ) → n ≤ 1 → n + bit (eqb n 0) ≡ 1
-one-set n h = bits (λ n. n + bit (eqb n 0) ≡ 1) n h refl refl
-
 one-width : (w : ℕ) → isWidth w ≡ true → bit (eqb w 2) + bit (eqb w 4) + bit (eqb w 8) ≤ 1
 one-width w e = by-width (λ v. bit (eqb v 2) + bit (eqb v 4) + bit (eqb v 8) ≤ 1) w e (lit≤ tt) (lit≤ tt) (lit≤ tt) (lit≤ tt)
 
 fine-flags : (width isRead : ℕ) → isWidth width ≡ true → isRead ≤ 1 → FineFlags (flagsOf width isRead)
 fine-flags width isRead w r =
-    let mu = one-set isRead r in
+    let mu = one-of-two isRead r in
     let wide = one-width width w in
     record { one = omega arith; width = omega arith; access = omega arith }
 

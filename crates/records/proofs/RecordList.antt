@@ -1,10 +1,10 @@
 -- Laws of the list of a list's records: one more record in front, and parts that are joined come back as they were. Assumes nothing.
 use mathlib.Core.Path.{_≡_, refl, sym, ap, subst, _∙_}
 use mathlib.Core.List.{List, [], _∷_, _++_, map, flatMap, append-assoc}
-use Prim.Native.Nat.{ℕ, suc, _+_, _-_, _*_, _/_, _%_, _≤_, _<_}
+use Prim.Native.Nat.{ℕ, zero, suc, _+_, _-_, _*_, _/_, _%_, _≤_, _<_}
 use native.Mathlib.Nat.{mul-comm, mul-one, mul-suc, mul-add-div, mul-zero, zero-add, div-add-mod'}
 use native.Mathlib.Omega.{arith}
-use lib.ListN.{length, take, drop, length-append}
+use lib.ListN.{length, take, drop, getD, length-append, take-append-drop}
 use lib.Seq.{take-at, drop-at, drop-drop}
 use Rattle.lists.specs.Lists.{All, listed}
 use Rattle.lists.proofs.Flat.{row-within}
@@ -67,6 +67,26 @@ module _ (w : ℕ) (pos : 0 < w) where
       ap (λ (l : List ℕ). listed (recordAt w l) 0 (suc (length xs))) (append-assoc (f x) (flatMap f xs) behind)
       ∙ front-more (f x) (flatMap f xs ++ behind) (length xs) (wide .0)
       ∙ ap (λ ys. f x ∷ ys) (joined-front f xs behind (wide .1))
+
+  -- record j of them is part j, and of a list that begins with them
+  joined-at : {A : Type 0} (f : A → List ℕ) (d : A) (xs : List A) (behind : List ℕ) → All (λ (x : A). length (f x) ≡ w) xs
+      → (j : ℕ) → j < length xs → recordAt w (flatMap f xs ++ behind) j ≡ f (getD xs j d)
+  unfolding flatMap
+  joined-at f d [] behind wide j h = absurd (omega arith)
+  joined-at f d (x ∷ xs) behind wide zero h =
+      ap (λ (l : List ℕ). recordAt w l 0) (append-assoc (f x) (flatMap f xs) behind)
+      ∙ ap (λ n. take w (drop n (f x ++ (flatMap f xs ++ behind)))) (mul-zero w)
+      ∙ take-at (f x) (flatMap f xs ++ behind) w (wide .0)
+  joined-at f d (x ∷ xs) behind wide (suc j) h =
+      ap (λ (l : List ℕ). recordAt w l (suc j)) (append-assoc (f x) (flatMap f xs) behind)
+      ∙ record-shift w (f x) (flatMap f xs ++ behind) j (wide .0)
+      ∙ joined-at f d xs behind (wide .1) j (omega arith)
+
+  pub front-at : {A : Type 0} (f : A → List ℕ) (d : A) (xs : List A) (l : List ℕ) (n : ℕ) → All (λ (x : A). length (f x) ≡ w) xs
+      → take n l ≡ flatMap f xs → (j : ℕ) → j < length xs → recordAt w l j ≡ f (getD xs j d)
+  front-at f d xs l n wide e j h =
+      ap (λ (k : List ℕ). recordAt w k j) (sym (take-append-drop n l) ∙ ap (λ front. front ++ drop n l) e)
+      ∙ joined-at f d xs (drop n l) wide j h
 
   -- of a list that is whole records, each is whole
   pub records-whole : (l : List ℕ) → length l % w ≡ 0 → All (λ (r : List ℕ). length r ≡ w) (recordsIn w l)

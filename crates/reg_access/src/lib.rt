@@ -2,9 +2,12 @@
 // Assumes nothing.
 use access::AccessTable;
 use access::register_access;
-use answer::Answer;
-use classify::MemwRoute;
+use classify::AccessNumbers;
+use classify::AccessRoute;
+use classify::access_numbers;
+use classify::access_refused;
 use classify::route::address_fits;
+use classify::route::delta_less_one;
 use classify::route::reg_ts_delta_in_range;
 use classify::route::table_of;
 use words::bit;
@@ -16,12 +19,13 @@ ghost use Rattle.words.specs.Words.{bit};
 ghost use Rattle.access.specs.Access.{ACCESS-WIDTH, accessRecord};
 ghost use Rattle.access.specs.RegisterAccess.{registerAccess};
 ghost use Rattle.access.specs.Tables.{REGISTER-WIDTH};
+ghost use Rattle.classify.specs.Classify.{deltaLessOne, carrying};
 ghost use Rattle.classify.specs.TableRecord.{registerRecord};
 ghost use Rattle.reg_access.specs.RegAccess.{built, routeOf, withZeros, pushed, pushNumbers};
 
 // The route, or document 01's refusal 11.
 pub enum RegAccessAnswer {
-    Pushed(MemwRoute),
+    Pushed(AccessRoute),
     BadAddress,
 }
 
@@ -59,27 +63,30 @@ pub fn push_reg_access(
     }
 }
 
-// Document 01's number, place and value of an answer.
-pub fn numbers(a: RegAccessAnswer) -> Answer
+// Document 01's number, place and value of an answer, and the number that its route carries.
+pub fn numbers(a: RegAccessAnswer) -> AccessNumbers
     ensures { λ r. ⌜ r ≡ pushNumbers a ⌝ }
 {
     match a {
-        RegAccessAnswer::Pushed(route) => answer::accept(classify::route_number(route)),
-        RegAccessAnswer::BadAddress => answer::refuse(11, 0),
+        RegAccessAnswer::Pushed(route) => access_numbers(route),
+        RegAccessAnswer::BadAddress => access_refused(11),
     }
 }
 
 // The route of an access whose two words were written together.
-fn route_of(reg_addr: u64, timestamp: u64, old_timestamp: u64) -> MemwRoute
-    ensures { λ r. ⌜ r ≡ routeOf «reg_addr» timestamp «old_timestamp» ⌝ }
+fn route_of(reg_addr: u64, timestamp: u64, old_timestamp: u64) -> AccessRoute
+    ensures { λ r. ⌜ r ≡ carrying (routeOf «reg_addr» timestamp «old_timestamp») (deltaLessOne timestamp «old_timestamp») ⌝ }
 {
     if reg_ts_delta_in_range(timestamp, old_timestamp) {
-        return MemwRoute::Register;
+        let less_one = delta_less_one(timestamp, old_timestamp);
+        return AccessRoute::Register {
+            delta_less_one: less_one,
+        };
     }
     if reg_addr % 4294967296 % 2 == 0 {
-        return MemwRoute::Aligned;
+        return AccessRoute::Aligned;
     }
-    MemwRoute::General
+    AccessRoute::General
 }
 
 // The record in the table's list.

@@ -37,7 +37,12 @@ fn register_table(records: &[u64], table: &mut [u64]) {
     replay::print_list(table);
 }
 
-// A maker, by the function's number: the records, the table.
+fn look_up(accesses: &[u64], lookups: &mut [u64]) {
+    replay::print_answer(exports::register_lookups(accesses, lookups));
+    replay::print_list(lookups);
+}
+
+// A maker, by the function's number, or the lookups: the records, the table or the pairs.
 fn ask_table(function: u64, numbers: &[u64], at: usize) -> usize
     requires { ⌜ at < length (now numbers) ⌝ }
     ensures { λ r. ⌜ (at < r) × (r ≤ length (now (numbers .entry))) ⌝ }
@@ -57,7 +62,11 @@ fn ask_table(function: u64, numbers: &[u64], at: usize) -> usize
         aligned_table(&numbers[at + 1..records_end], &mut table[0..n]);
         return table_end;
     }
-    register_table(&numbers[at + 1..records_end], &mut table[0..n]);
+    if function == 2 {
+        register_table(&numbers[at + 1..records_end], &mut table[0..n]);
+        return table_end;
+    }
+    look_up(&numbers[at + 1..records_end], &mut table[0..n]);
     table_end
 }
 
@@ -258,7 +267,7 @@ fn ask_step(numbers: &[u64], at: usize) -> usize
     records_end
 }
 
-// One of the last four questions.
+// One of the last five questions.
 fn ask_other(function: u64, numbers: &[u64], at: usize) -> usize
     requires { ⌜ at < length (now numbers) ⌝ }
     ensures { λ r. ⌜ (at < r) × (r ≤ length (now (numbers .entry))) ⌝ }
@@ -267,12 +276,13 @@ fn ask_other(function: u64, numbers: &[u64], at: usize) -> usize
         6 => ask_route(numbers, at),
         7 => ask_push(numbers, at),
         8 => ask_start(numbers, at),
-        _ => ask_step(numbers, at),
+        9 => ask_step(numbers, at),
+        _ => ask_table(function, numbers, at),
     }
 }
 
 // One question: 0 to 2 the makers of the general, aligned and register table, 3 to 5 their residues, 6 route_accesses, 7
-// push_reg_access, 8 new_register_state, 9 collect_copy_register_ops.
+// push_reg_access, 8 new_register_state, 9 collect_copy_register_ops, 10 register_lookups.
 fn ask(numbers: &[u64], at: usize) -> usize
     requires { ⌜ at < length (now numbers) ⌝ }
     ensures { λ r. ⌜ (at < r) × (r ≤ length (now (numbers .entry))) ⌝ }

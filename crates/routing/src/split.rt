@@ -103,7 +103,7 @@ fn route_answer(
 }
 
 // The lowest record that is refused, or how many records go to each list.
-fn judge(accesses: &[u64], n: usize) -> RouteAnswer
+pub fn judge(accesses: &[u64], n: usize) -> RouteAnswer
     requires { ⌜ (n ≡ recordCount ACCESS-WIDTH (now accesses)) × (n ≤ 2 ^ 20) ⌝ }
     ensures { λ r. ⌜ r ≡ judged (now (accesses .entry)) ⌝ }
 {

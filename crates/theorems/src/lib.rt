@@ -11,8 +11,11 @@ ghost use Rattle.field.specs.Constants.{BorrowConstants};
 ghost use Rattle.call.specs.Instances.{Instances};
 ghost use Rattle.load.specs.LoadLaws.{LoadLaws};
 ghost use Rattle.load.specs.Instances.{Instances as LoadInstances};
-ghost use Rattle.reg_access.specs.RegAccess.{RouteByInputs};
+ghost use Rattle.classify.specs.RouteLaws.{RouteLaws, RouteInstances};
+ghost use Rattle.reg_access.specs.RegAccess.{RouteByInputs, PushTold};
 ghost use Rattle.routing.specs.InOrder.{RoutedInOrder};
+ghost use Rattle.lookups.specs.LookupLaws.{LookupLaws};
+ghost use Rattle.lookups.specs.Instances.{Instances as LookupInstances};
 ghost use Rattle.expansion_rows.specs.WidthRule.{WidthRule, WidthCases};
 ghost use Rattle.expansion_rows.specs.RowsCut.{RowsAreCut};
 ghost use Rattle.expansion.specs.Consequences.{Consequences};
@@ -82,9 +85,17 @@ pub fn load_laws_hold() -> bool
     true
 }
 
-// The route of a register access is found by its stamps and address, and it is Register exactly if the stamps are in range.
+// The route that is answered in document 02's words: the Rust's, and of a register access its low stamp difference less one.
+pub fn route_laws_hold() -> bool
+    ensures { λ r. ⌜ (r ≡ true) × RouteLaws × RouteInstances ⌝ }
+{
+    true
+}
+
+// The route of a register access is found by its stamps and address, it is Register exactly if the stamps are in range, and the numbers of
+// an answer tell it.
 pub fn route_by_inputs_holds() -> bool
-    ensures { λ r. ⌜ (r ≡ true) × RouteByInputs ⌝ }
+    ensures { λ r. ⌜ (r ≡ true) × RouteByInputs × PushTold ⌝ }
 {
     true
 }
@@ -92,6 +103,14 @@ pub fn route_by_inputs_holds() -> bool
 // "Three lists in arrival order", and no record lost.
 pub fn routed_in_order_holds() -> bool
     ensures { λ r. ⌜ (r ≡ true) × RoutedInOrder ⌝ }
+{
+    true
+}
+
+// The lookups in document 02's words, held against routing: the same refusals, and pairs that rebuild the difference less one of the record
+// that routing puts at their place; with small lists computed.
+pub fn lookup_laws_hold() -> bool
+    ensures { λ r. ⌜ (r ≡ true) × LookupLaws × LookupInstances ⌝ }
 {
     true
 }

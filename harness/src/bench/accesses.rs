@@ -4,11 +4,12 @@
 
 use super::{Report, SIZES, Times, answered, race_two};
 use crate::exported;
+use crate::generate::lookups::{self, LOOKUPS, PAIR};
 use crate::generate::records;
 use crate::oracle::records::{
     ACCESS, OPERATION, REGISTER, access_of, access_record, operation_record, register_record,
 };
-use crate::oracle::{self, Answer, row_widths};
+use crate::oracle::{self, Answer, halfword_pair, row_widths};
 use crate::rng::Rng;
 use original::tables::copy::{CopyOperation, Functionality};
 use original::tables::memw::MemwOperation;
@@ -268,6 +269,41 @@ pub fn routing(report: &mut Report) {
     let what =
         format!("route_accesses ({register} register, {aligned} aligned, {general} general)");
     report.sizes(&what, "original", times);
+}
+
+/// Register accesses at every difference among others. The Rust side routes, as the original
+/// does, and takes the pairs off the register rows in a loop.
+pub fn lookups(report: &mut Report) {
+    if !report.wants(LOOKUPS) {
+        return;
+    }
+    let mut rng = Rng::new(1);
+    let list = rng.many(SIZES[2], lookups::access).concat();
+    let structs: Vec<MemwOperation> = list.chunks(ACCESS).map(access_of).collect();
+    let mut written = 0;
+    let times = SIZES.map(|n| {
+        let list = &list[..n * ACCESS];
+        let mut lent = vec![JUNK; n * PAIR];
+        let mut answer = answered(0);
+        let mut pairs = Vec::new();
+        let mut ours = || answer = black_box(exported::register_lookups(list, &mut lent));
+        let mut rust = || {
+            let rows = route(structs[..n].iter().cloned()).register;
+            pairs.clear();
+            for row in &rows {
+                pairs.extend(halfword_pair(row));
+            }
+        };
+        let times = race_two(n, &mut ours, &mut rust);
+        written = pairs.len() / PAIR;
+        assert!(
+            answer == answered(written) && is_front(&lent, &pairs),
+            "lookups: results differ"
+        );
+        times
+    });
+    let what = format!("{LOOKUPS} ({written} pairs)");
+    report.sizes(&what, "original's routing, and a loop for the pairs", times);
 }
 
 /// Whether the lists begin with what the original makes, and have junk after it.

@@ -56,6 +56,7 @@ pub fn run(kinds: &[&str]) -> Result<(), String> {
     tables::run(&mut report);
     accesses::expansion(&mut report);
     accesses::routing(&mut report);
+    accesses::lookups(&mut report);
     lists::run(&mut report);
     load::run(&mut report);
     print!("{}", report.text());

@@ -9,7 +9,7 @@ mod tally;
 use crate::bench::keep_memory;
 use crate::exported;
 use crate::generate::programs::question_of;
-use crate::generate::{Generator, carries, load};
+use crate::generate::{Generator, carries, load, lookups};
 use crate::inputs;
 use crate::protocol::{Argument, FUNCTIONS, Question, Reply};
 use crate::side::EXPORTED;
@@ -100,6 +100,7 @@ fn first(name: &str, seed: u64) -> Result<Vec<Question>, String> {
         }
         carries::MAKER => Ok(carries::questions(seed)),
         "generate_load" => Ok(load::always()),
+        lookups::LOOKUPS => Ok(lookups::always()),
         _ => Ok(Vec::new()),
     }
 }

@@ -3,6 +3,7 @@
 use crate::generate::carries;
 use crate::generate::edges;
 use crate::generate::long::EDGES;
+use crate::generate::lookups::{self, LOOKUPS, PAIR};
 use crate::oracle::records::{ACCESS, OPERATION, REGISTER};
 use crate::oracle::{COPY_COLUMNS, LIST_LIMIT};
 use crate::protocol::{Argument, FUNCTIONS, Question, Reply};
@@ -50,6 +51,10 @@ pub struct Tally {
     /// Accepted calls that an edge cuts into other rows, and their kinds, edges and gaps.
     otherwise_cut: u64,
     met: BTreeSet<[u64; 3]>,
+    /// The pairs that were written, and lists of which some pair is not of the record at its
+    /// own place.
+    pairs: BTreeSet<[u64; PAIR]>,
+    displaced: u64,
 }
 
 impl Tally {
@@ -71,6 +76,8 @@ impl Tally {
             seeds: BTreeSet::new(),
             otherwise_cut: 0,
             met: BTreeSet::new(),
+            pairs: BTreeSet::new(),
+            displaced: 0,
         }
     }
 
@@ -108,6 +115,44 @@ impl Tally {
         if self.name == carries::MAKER && number == 0 {
             self.saw_addresses(question);
         }
+        if self.name == LOOKUPS && number == 0 {
+            self.saw_pairs(question, reply);
+        }
+    }
+
+    /// An answer that counts more pairs than the list can hold is the comparison's to find.
+    fn saw_pairs(&mut self, question: &Question, reply: &Reply) {
+        let count = reply.answer.value as usize;
+        let written = reply.lent[0].chunks_exact(PAIR).take(count);
+        self.pairs.extend(written.map(|pair| [pair[0], pair[1]]));
+        let front = |list: &Vec<u64>| {
+            let records = list.chunks_exact(ACCESS).take(count);
+            lookups::pairs_of(&records.collect::<Vec<_>>().concat())
+        };
+        let mut fronts = question.lists(false).map(front);
+        self.displaced += u64::from(fronts.any(|pairs| pairs < count));
+    }
+
+    /// What the pairs that were written should have been and were not.
+    fn unpaired(&self) -> Vec<String> {
+        let mut faults = Vec::new();
+        for pair in [[0, 0], [255, 255]] {
+            if !self.pairs.contains(&pair) {
+                faults.push(format!("{LOOKUPS}: never the pair {pair:?}"));
+            }
+        }
+        for (place, byte) in [(0, "low"), (1, "high")] {
+            let seen: BTreeSet<u64> = self.pairs.iter().map(|pair| pair[place]).collect();
+            if seen.len() != 256 {
+                faults.push(format!("{LOOKUPS}: {} {byte} bytes of 256", seen.len()));
+            }
+        }
+        if 4 * self.displaced < self.answers[0] {
+            faults.push(format!(
+                "{LOOKUPS}: most pairs are of the record at their own place"
+            ));
+        }
+        faults
     }
 
     fn saw_addresses(&mut self, question: &Question) {
@@ -188,6 +233,9 @@ impl Tally {
         if name == "row_check" {
             faults.extend(self.unnamed());
         }
+        if name == LOOKUPS {
+            faults.extend(self.unpaired());
+        }
         if name == carries::MAKER {
             let seen = carries::HIGH_WORDS.map(|high| self.high_words.contains(&high));
             if self.carries.contains(&0) || seen.contains(&false) {
@@ -256,6 +304,11 @@ impl Tally {
                 "calls of a whole window of 65,536 cells",
             ),
             (self.otherwise_cut, "calls cut into other rows at an edge"),
+            (self.pairs.len() as u64, "different pairs"),
+            (
+                self.displaced,
+                "lists with a pair that is not of the record at its place",
+            ),
             (self.whole_rows, "rows asked for all their residues"),
             (self.in_turn, "in turn over what the call before left"),
         ];
@@ -271,7 +324,9 @@ fn unit(name: &str) -> Option<(usize, usize)> {
     let unit = match name {
         "generate_copy_trace" => (0, OPERATION),
         "generate_memw_register_trace" => (0, REGISTER),
-        "generate_memw_trace" | "generate_memw_aligned_trace" | "route_accesses" => (0, ACCESS),
+        "generate_memw_trace" | "generate_memw_aligned_trace" | "route_accesses" | LOOKUPS => {
+            (0, ACCESS)
+        }
         "chain_check" | "read_back" => (1, 41),
         "collect_copy_ops" => (6, 1),
         "copy_residue" => (1, 1),

@@ -6,7 +6,7 @@ use super::expansion::Window;
 use super::lists::{self, Rows};
 use super::numbers::{gap, junk};
 use super::records::{self, Kind};
-use super::{load, operands, programs, rows};
+use super::{load, lookups, operands, programs, rows};
 use crate::oracle::records::{ACCESS, HANDED, REGISTER};
 use crate::oracle::{LIST_LIMIT, route_by_words};
 use crate::protocol::{Argument, Question, Reply};
@@ -141,6 +141,7 @@ fn place(rng: &mut Rng, length: usize) -> usize {
 fn question(rng: &mut Rng, kind: &str, length: usize, shape: Shape) -> Option<Question> {
     let question = match kind {
         "route_accesses" => route(rng, length, shape),
+        lookups::LOOKUPS => looked_up(rng, length, shape),
         "chain_check" => check(rng, length, shape),
         "read_back" => read_back(rng, length, shape),
         "add_pair" => operands::long_question(rng, length),
@@ -207,6 +208,13 @@ fn route(rng: &mut Rng, length: usize, shape: Shape) -> Question {
     }
     arguments.push(junk(rng, 3).into());
     Question::new("route_accesses", arguments)
+}
+
+fn looked_up(rng: &mut Rng, length: usize, shape: Shape) -> Question {
+    let accesses = list(rng, length, shape, &lookups::LOOKED_UP);
+    let pairs = lookups::PAIR * lookups::pairs_of(&accesses);
+    let buffer = buffer(rng, pairs, shape);
+    Question::new(lookups::LOOKUPS, vec![accesses.into(), buffer])
 }
 
 /// A list of so many rows under a gap; `Short` leaves its last call without an end.

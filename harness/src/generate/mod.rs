@@ -7,6 +7,7 @@ mod expansion;
 pub mod lists;
 pub mod load;
 pub mod long;
+pub mod lookups;
 pub mod numbers;
 mod operands;
 pub mod programs;
@@ -113,6 +114,7 @@ fn question(rng: &mut Rng, kind: &str) -> Question {
         "field_add" | "field_sub" | "field_mul" => field_question(rng, kind),
         "add_pair" => operands::question(rng),
         "route_accesses" => records::route_question(rng),
+        lookups::LOOKUPS => lookups::question(rng),
         "push_reg_access" => records::push_question(rng),
         "new_register_state" => registers::new_question(rng),
         "chain_check" => lists::check_question(rng),

@@ -1,10 +1,11 @@
-//! Routing. Routes and records are the original's; 11 is judged by document 01's
-//! words for a route, before the original is asked.
+//! Routing and the lookups of the register table. Routes and records are the original's;
+//! 11 is judged by document 01's words for a route, before the original is asked.
 
 use super::records::{
     ACCESS, REGISTER, access_of, access_record, is_access, judge_list, register_record,
 };
 use super::{Answer, Outcome, refuse_if, refuse_short, write_front};
+use original::tables::memw_register::RegRow;
 use original::tables::trace_builder::{Routed, route, route_reg_access};
 
 /// Document 01's route of an admitted access record: 0 register, 1 aligned, 2 general.
@@ -25,6 +26,12 @@ pub fn route_by_words(record: &[u64]) -> u64 {
     } else {
         2
     }
+}
+
+/// Document 02's number of a record that goes to the register table: the low stamp
+/// difference less one.
+pub fn difference_by_words(record: &[u64]) -> u64 {
+    record[10] % (1 << 32) - record[21] % (1 << 32) - 1
 }
 
 /// 11: the register table has no row for this address.
@@ -70,6 +77,27 @@ pub fn route_accesses(
         let [register, aligned, general] = lists.map(|list| list.len());
         *counts = [register / REGISTER, aligned / ACCESS, general / ACCESS].map(|n| n as u64);
         Ok((accesses.len() / ACCESS) as u64)
+    };
+    Answer::from(judge())
+}
+
+/// What a row of the register table sends to the half-word lookup, in the original's
+/// words `IS_HALFWORD[timestamp_0 - old_timestamp_lo - 1]`: low byte, then high byte.
+pub fn halfword_pair(row: &RegRow) -> [u64; 2] {
+    let half = row.timestamp as u32 - row.old_timestamp_lo - 1;
+    let half = u16::try_from(half).expect("the route holds the difference to 65,536");
+    half.to_le_bytes().map(u64::from)
+}
+
+/// A pair for each row that the original's routing gives the register table, in its order.
+pub fn register_lookups(accesses: &[u64], lookups: &mut [u64]) -> Answer {
+    let mut judge = || {
+        judge_list(accesses, ACCESS, fault)?;
+        let rows = route(accesses.chunks(ACCESS).map(access_of)).register;
+        let pairs: Vec<u64> = rows.iter().flat_map(halfword_pair).collect();
+        refuse_short(lookups.len(), pairs.len())?;
+        write_front(lookups, &pairs);
+        Ok(rows.len() as u64)
     };
     Answer::from(judge())
 }

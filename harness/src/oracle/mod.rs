@@ -15,7 +15,10 @@ mod registers;
 mod residues;
 mod tables;
 
-pub use access::{push_reg_access, route_accesses, route_by_words};
+pub use access::{
+    difference_by_words, halfword_pair, push_reg_access, register_lookups, route_accesses,
+    route_by_words,
+};
 pub use callcheck::callcheck;
 pub use chain::{chain_check, read_back, row_check};
 pub use expansion::{collect_copy_ops, row_widths};

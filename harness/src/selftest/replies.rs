@@ -2,8 +2,9 @@
 //! and where the original can be held against document 01's words.
 
 use super::{Report, Tally};
+use crate::generate::lookups::{LOOKUPS, PAIR};
 use crate::generate::{Generator, carries, records};
-use crate::oracle::{self, records::ACCESS};
+use crate::oracle::{self, Answer, records::ACCESS};
 use crate::protocol::{Argument, FUNCTIONS, Question, Reply};
 use crate::rng::Rng;
 
@@ -12,6 +13,7 @@ pub fn run(report: &mut Report, seed: u64, count: u64) {
         report.add(refusals_write_nothing(name, seed, count / 20));
     }
     report.add(routes_by_words(seed, count));
+    report.add(lookups_by_words(seed, count));
     report.add(carries_by_words(seed));
     report.add(made_rows_have_zero_residues(seed, count / 20));
     report.add(moved_bytes(seed, count / 20));
@@ -55,6 +57,47 @@ fn routes_by_words(seed: u64, count: u64) -> Tally {
         tally.saw(["register", "aligned", "general"][route as usize]);
     }
     tally
+}
+
+/// Document 02's words for the lookups: a pair rebuilds the difference less one of its
+/// record, and what is refused is what routing refuses, if its lists are long enough.
+fn lookups_by_words(seed: u64, count: u64) -> Tally {
+    let mut tally = Tally::new("lookups by document 02's words are the original's");
+    let mut generator = Generator::new(LOOKUPS, seed).expect("a kind");
+    for _ in 0..count {
+        let question = generator.question();
+        let Reply { answer, lent } = question.reply();
+        let accesses = question.lists(false).next().expect("the access list");
+        let holds = match answer.number {
+            0 => rebuilds(accesses, &lent[0][..PAIR * answer.value as usize]),
+            _ => is_refused_alike(accesses, answer),
+        };
+        tally.case(holds, || question.line());
+        tally.saw(format!("{:02}", answer.number));
+    }
+    tally
+}
+
+/// Whether these are the pairs of the records that go to the register table.
+fn rebuilds(accesses: &[u64], pairs: &[u64]) -> bool {
+    let near = |record: &&[u64]| oracle::route_by_words(record) == 0;
+    let wanted = accesses
+        .chunks(ACCESS)
+        .filter(near)
+        .map(oracle::difference_by_words);
+    let bytes = pairs.iter().all(|&byte| byte < 256);
+    bytes && wanted.eq(pairs.chunks(PAIR).map(|pair| pair[0] + 256 * pair[1]))
+}
+
+/// Whether routing refuses the list in the same place, or only this buffer was too short.
+fn is_refused_alike(accesses: &[u64], answer: Answer) -> bool {
+    let mut lists = [(); 3].map(|()| vec![0; accesses.len()]);
+    let [register, aligned, general] = &mut lists;
+    let routed = oracle::route_accesses(accesses, register, aligned, general, &mut [0; 3]);
+    match answer.number {
+        9 => routed.number == 0,
+        _ => routed == answer,
+    }
 }
 
 /// Document 01's words for CARRY against the original's rows, where CARRY changes.

@@ -3,20 +3,20 @@
 use mathlib.Core.Path.{_≡_, sym, ap, _∙_}
 use borrow.Author.Needs.{needs}
 use Rattle.access.specs.declared.AccessTable.{AccessTable}
-use Rattle.classify.specs.Classify.{classify}
+use Rattle.classify.specs.Classify.{accessRoute}
 use Rattle.classify.specs.TableRecord.{addressFits}
 use Rattle.reg_access.specs.RegAccess.{built, withZeros, pushNumbers}
 use Rattle.reg_access.specs.declared.RegAccess.{RegAccess}
-use Rattle.reg_access.proofs.Route.{built-route, pushed-fits, pushed-not}
+use Rattle.reg_access.proofs.Route.{built-carries, pushed-fits, pushed-not}
 use Rattle.reg_access.proofs.push_reg_access.Statement.{statement}
 use Rattle.reg_access.proofs.push_reg_access.Tie as tie
 
 -- the route of the record is the one found, and its table
 route-at : (c : tie.After-route-of) → let a = c .before .args in
-    classify (built (a .reg-addr) (a .val) (a .old) (a .timestamp) (a .old-timestamp) (a .is-read)) ≡ c .route-of .result
+    accessRoute (built (a .reg-addr) (a .val) (a .old) (a .timestamp) (a .old-timestamp) (a .is-read)) ≡ c .route-of .result
 route-at c =
     let a = c .before .args in
-    built-route (a .reg-addr) (a .val) (a .old) (a .timestamp) (a .old-timestamp) (a .is-read) ∙ sym (c .route-of .ensures)
+    built-carries (a .reg-addr) (a .val) (a .old) (a .timestamp) (a .old-timestamp) (a .is-read) ∙ sym (c .route-of .ensures)
 
 returns : tie.Need-returns
 unfolding built

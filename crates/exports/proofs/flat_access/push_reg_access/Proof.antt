@@ -7,6 +7,7 @@ use lib.ListN.{take, drop}
 use denote.Ref.{now}
 use borrow.Author.Needs.{needs}
 use Rattle.access.specs.Tables.{REGISTER-WIDTH}
+use Rattle.classify.specs.declared.AccessNumbers.{AccessNumbers}
 use Rattle.reg_access.specs.RegAccess.{built, pushed}
 use Rattle.reg_access.specs.declared.RegAccess.{RegAccess}
 use Rattle.exports.specs.FlatAccess.{accessAnswer}
@@ -27,11 +28,12 @@ lent c = now (c .args .«record»)
 abbrev start-of : tie.After-push-reg-access → tie.Start
 start-of c = c .before .before .before
 
-answer-at : (c : tie.After-numbers) → let s = start-of (c .before) in c .numbers .result ≡ accessAnswer (s .args .is-read) (access s)
+answer-at : (c : tie.After-numbers) → let s = start-of (c .before) in c .numbers .result .answer ≡ accessAnswer (s .args .is-read) (access s)
 answer-at c =
     let found = c .before in
     let s = start-of found in
-    c .numbers .ensures ∙ found .push-reg-access .ensures .0 ∙ pushed-answer (s .args .is-read) (access s) (lent s) (found .before .if1 .left)
+    ap (λ (n : AccessNumbers). n .answer) (c .numbers .ensures ∙ found .push-reg-access .ensures .0)
+    ∙ pushed-answer (s .args .is-read) (access s) (lent s) (found .before .if1 .left)
 
 returns : tie.Need-returns
 returns c =
@@ -40,14 +42,14 @@ returns c =
 
 returns-2 : tie.Need-returns-2
 returns-2 c =
-    let told = c .before .before in
+    let told = c .before .before .before in
     let s = start-of (told .before) in
     push-refused (s .args .is-read) (access s) (lent s) _ (answer-at told) (c .if2 .taken)
 
 returns-3 : tie.Need-returns-3
 returns-3 c =
     let at-if2 = c .before .before .before in
-    let told = at-if2 .before .before in
+    let told = at-if2 .before .before .before in
     let found = told .before in
     let s = start-of found in
     push-whole (s .args .is-read) (access s) (lent s) _ (answer-at told) (at-if2 .if2 .left) (c .if3 .taken) _ (found .push-reg-access .ensures .1)
@@ -56,7 +58,7 @@ returns-4 : tie.Need-returns-4
 returns-4 c =
     let at-list = c .before .before .before in
     let at-if2 = at-list .before in
-    let told = at-if2 .before .before in
+    let told = at-if2 .before .before .before in
     let found = told .before in
     let s = start-of found in
     push-front (s .args .is-read) (access s) (lent s) _ (answer-at told) (at-if2 .if2 .left) (c .before .if3 .left) _

@@ -1,0 +1,5 @@
+pub mod Answers
+pub mod Answered
+pub mod LookupLaws
+pub mod Instances
+pub mod Computing

@@ -1,0 +1,4 @@
+pub mod Lookups
+pub mod LookupLaws
+pub mod Instances
+pub mod Inner
