@@ -210,6 +210,17 @@ static void ask_generate_load(void)
     lent(out);
 }
 
+static void ask_join_calls(void)
+{
+    list first = numbers();
+    list second = numbers();
+    list joined = numbers();
+    answer(join_calls(first.at, first.length, second.at, second.length, joined.at, joined.length));
+    lent(joined);
+    free(first.at);
+    free(second.at);
+}
+
 static void ask_read_back(void)
 {
     uint64_t gap = number();
@@ -247,6 +258,7 @@ static const struct {
     {"collect_copy_register_ops", ask_collect_copy_register_ops},
     {"collect_copy_ops", ask_collect_copy_ops},
     {"generate_load", ask_generate_load},
+    {"join_calls", ask_join_calls},
     {"chain_check", ask_chain_check},
     {"row_check", ask_row_check},
     {"read_back", ask_read_back},

@@ -93,6 +93,12 @@ minjolf_answer collect_copy_ops(uint64_t kind, uint64_t timestamp, uint64_t src,
  * are wanted), 9; place 0. value: calls. */
 minjolf_answer generate_load(uint64_t s, uint64_t calls, uint64_t *out, size_t out_length);
 
+/* Two lists of calls, as generate_load writes them, each in order of stamp, made into one in order of stamp, the first list's call ahead at
+ * equal stamps. Refuses with 8, 10 (place: the call), 20 (a list out of order; place: the first call stamped below the one before it),
+ * each of the first list and then of the second, its place counted in that list, then 9. value: calls. */
+minjolf_answer join_calls(const uint64_t *first, size_t first_length, const uint64_t *second, size_t second_length, uint64_t *joined,
+                          size_t joined_length);
+
 /* One copy row by itself: 41 numbers. Refuses with 7, 13, 14 (place: the index of the lowest number not below p), 15, 16 (value: the
  * residue's index); place 0 but for 14. value: 0. */
 minjolf_answer row_check(uint64_t gap, const uint64_t *row, size_t row_length);

@@ -70,6 +70,14 @@ mod c {
             lookups: *mut u64,
             lookups_length: usize,
         ) -> Answer;
+        pub fn join_calls(
+            first: *const u64,
+            first_length: usize,
+            second: *const u64,
+            second_length: usize,
+            joined: *mut u64,
+            joined_length: usize,
+        ) -> Answer;
         pub fn push_reg_access(
             reg_addr: u64,
             val0: u32,
@@ -262,6 +270,13 @@ pub fn route_accesses(
 pub fn register_lookups(accesses: &[u64], lookups: &mut [u64]) -> Answer {
     call!(exported_register_lookups, register_lookups(
         accesses.as_ptr(), accesses.len(), lookups.as_mut_ptr(), lookups.len(),
+    ))
+}
+
+#[rustfmt::skip]
+pub fn join_calls(first: &[u64], second: &[u64], joined: &mut [u64]) -> Answer {
+    call!(exported_join_calls, join_calls(
+        first.as_ptr(), first.len(), second.as_ptr(), second.len(), joined.as_mut_ptr(), joined.len(),
     ))
 }
 

@@ -59,6 +59,7 @@ pub const FUNCTIONS: &[Function] = &[
           LentArray(2)],
         &[1, 2, 3, 5, 7, 8, 9, 10]),
     ("generate_load", &[Number, Number, Lent], &[9, 19]),
+    ("join_calls", &[Slice, Slice, Lent], &[8, 9, 10, 20]),
     ("chain_check", &[Number, Slice], &[7, 13, 14, 15, 16, 17, 18]),
     ("row_check", &[Number, Slice], &[7, 13, 14, 15, 16]),
     ("read_back", &[Number, Slice, Lent, Lent, LentArray(2)],

@@ -5,7 +5,7 @@
 //! then each lent slice afterwards as its length and its numbers, one number to a line.
 
 use crate::generate::programs::question_of;
-use crate::generate::{Generator, carries, load, lookups};
+use crate::generate::{Generator, carries, join, load, lookups};
 use crate::inputs;
 use crate::numbered;
 use crate::oracle::PRIME;
@@ -85,6 +85,7 @@ const PROGRAMS: &[Program] = &[
             part("collect_copy_ops", [2, 1], 300),
             part("generate_load", [1, 3], 110),
             part(NUMBERED, [0, 0], 0),
+            part(join::JOIN, [1, 1], 90),
         ],
     },
     Program {
@@ -271,7 +272,9 @@ fn class(question: &Question, reply: &Reply) -> [u64; 2] {
         "collect_copy_register_ops" => numbers[0],
         // The kind, and whether the call is empty, narrow rows only, or has wide ones.
         "collect_copy_ops" => 3 * numbers[0] + numbers[4].min(8).div_ceil(7),
-        "push_reg_access" | lookups::LOOKUPS | "chain_check" | "read_back" => answer.value,
+        "push_reg_access" | lookups::LOOKUPS | join::JOIN | "chain_check" | "read_back" => {
+            answer.value
+        }
         // FIRST to MU, which are bits in a row that passes.
         "row_check" => row_of(question)[32..39]
             .iter()
@@ -313,6 +316,7 @@ fn fixed(name: &str) -> Result<Vec<Question>, String> {
         "callcheck" => Ok(inputs::recorded()?.into_iter().map(question_of).collect()),
         carries::MAKER => Ok(carries::at_each_address()),
         "generate_load" => Ok(load::always()),
+        join::JOIN => Ok(join::always()),
         lookups::LOOKUPS => Ok(lookups::always()),
         _ => Ok(Vec::new()),
     }

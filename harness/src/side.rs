@@ -36,6 +36,7 @@ pub struct Side {
         u64, u64, u64, u64, u64, u64, &mut [u8], &mut [u64], &mut [u64], &mut [u64], &mut [u64; 2],
     ) -> Answer,
     generate_load: fn(u64, u64, &mut [u64]) -> Answer,
+    join_calls: fn(&[u64], &[u64], &mut [u64]) -> Answer,
     chain_check: fn(u64, &[u64]) -> Answer,
     row_check: fn(u64, &[u64]) -> Answer,
     read_back: fn(u64, &[u64], &mut [u64], &mut [u64], &mut [u64; 2]) -> Answer,
@@ -50,7 +51,7 @@ macro_rules! side {
         generate_memw_aligned_trace generate_memw_register_trace
         route_accesses register_lookups push_reg_access
         new_register_state collect_copy_register_ops
-        collect_copy_ops generate_load chain_check row_check read_back
+        collect_copy_ops generate_load join_calls chain_check row_check read_back
     } };
 }
 
@@ -92,6 +93,7 @@ impl Side {
             "new_register_state" => (self.new_register_state)(n[0], n[1], array(&mut lent[0])),
             "generate_load" => (self.generate_load)(n[0], n[1], &mut lent[0]),
             "register_lookups" => (self.register_lookups)(s[0], &mut lent[0]),
+            "join_calls" => (self.join_calls)(s[0], s[1], &mut lent[0]),
             name if name.starts_with("generate_") => self.table(name, s[0], &mut lent[0]),
             name => self.lent(name, n, &s, lent),
         }

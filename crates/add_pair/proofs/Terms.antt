@@ -6,20 +6,17 @@ use Prim.Native.Nat.{ℕ, suc, _+_, _-_, _^_, _<_, _≤_}
 use native.Mathlib.Omega.{arith}
 use borrow.Author.Tests.{lt-ltb, le-ltb, eq-eqb, ne-eqb}
 use lib.IntN.{ℤ, pos, negsuc}
-use lib.ListN.{length, List·getD-eq-default}
+use lib.ListN.{length}
 use mir.Syntax.{w64}
 use mir.Val.{toZ}
 use mir.ValLaws.{toZ-pos}
 use Rattle.lists.specs.Lists.{at}
+use Rattle.lists.proofs.Numbers.{past}
 use Rattle.operands.specs.declared.AddLinearTerm.{AddLinearTerm}
 use Rattle.operands.specs.declared.AddLinearTerm.the-variants.{Constant, Column}
 use Rattle.add_pair.specs.Flat.{afterTerms, signedOf, termFrom, termAfter, termOf}
 use Rattle.add_pair.specs.declared.Walk.{Walk}
 use Rattle.add_pair.specs.declared.Walk.the-variants.{At}
-
--- a number past the end
-pub past : (l : List ℕ) (i : ℕ) → length l ≤ i → 0 ≡ at l i
-past l i h = sym (List·getD-eq-default l 0 h)
 
 -- the signed reading of the bits
 pub signed-low : (n : ℕ) → n < 2 ^ 63 → toZ w64 n ≡ signedOf n

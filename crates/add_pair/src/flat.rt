@@ -2,24 +2,17 @@
 // does not have reads as 0. Assumes nothing.
 use crate::FlatForm;
 use crate::Walk;
+use lists::slices::number;
 use operands::AddLinearTerm;
 use operands::AddOperand;
 use operands::OperandKind;
 use operands::TermCell;
 ghost use mathlib.Core.Path.{_≡_};
-ghost use Rattle.lists.specs.Lists.{at};
 ghost use Rattle.operands.specs.Constructors.{dword};
 ghost use Rattle.add_pair.specs.Flat.{afterTerm, afterTerms, afterSum, isEnd, sumsForm, flatForm};
 ghost use Rattle.add_pair.specs.Flat.{signedOf, termFrom, termAfter, termOf, fourTerms, operandOf};
 ghost use Rattle.add_pair.specs.Answers.{isForm};
 ghost use Rattle.add_pair.specs.declared.Walk.the-variants.{At};
-
-// The number at index i, 0 past the end.
-fn number(list: &[u64], i: usize) -> u64
-    ensures { λ r. ⌜ r ≡ at (now (list .entry)) i ⌝ }
-{
-    if i < list.len() { list[i] } else { 0 }
-}
 
 // Where the term at index i ends: two numbers on, or three, by its tag.
 fn after_term(list: &[u64], i: usize) -> Walk

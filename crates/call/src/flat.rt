@@ -4,6 +4,7 @@ ghost use lib.ListN.{length};
 ghost use Rattle.call.specs.Inner.{callOf};
 ghost use Rattle.call.specs.Flat.{HANDED-WIDTH, callFrom};
 use crate::CopyCall;
+use lists::slices::number;
 
 // The call in the numbers that are handed in: kind, stamp, src, dst, count.
 pub fn call_from(call: &[u64]) -> CopyCall
@@ -17,4 +18,11 @@ pub fn call_from(call: &[u64]) -> CopyCall
         dst: call[3],
         count: call[4],
     }
+}
+
+// The stamp among these numbers; 0 in a cut call that has none.
+pub fn stamp_of(call: &[u64]) -> u64
+    ensures { λ r. ⌜ r ≡ callFrom (now (call .entry)) .stamp ⌝ }
+{
+    number(call, 1)
 }

@@ -11,6 +11,7 @@ use records::tables::record_count;
 ghost use mathlib.Core.Path.{_≡_};
 ghost use Rattle.field.specs.Answers.{addAnswer, subAnswer, mulAnswer, fieldNumbers};
 ghost use Rattle.load.specs.Load.{LoadDone};
+ghost use Rattle.call_join.specs.Join.{JoinDone};
 ghost use Rattle.records.specs.Records.{LIMIT};
 ghost use Rattle.routing.specs.Routing.{lists};
 ghost use Rattle.lookups.specs.Lookups.{LookupsDone};
@@ -54,6 +55,14 @@ pub extern "C" fn generate_load(s: u64, calls: u64, out: &mut [u64]) -> Answer
     ensures { λ r. ⌜ LoadDone s calls (now (out .entry)) r (now (out .exit)) ⌝ }
 {
     load::numbers(load::generate_load(s, calls, out))
+}
+
+// Two lists of calls made into one, or 8, 10, 20, 9; the value is the number of calls.
+#[no_mangle]
+pub extern "C" fn join_calls(first: &[u64], second: &[u64], joined: &mut [u64]) -> Answer
+    ensures { λ r. ⌜ JoinDone LIMIT 8 (now (first .entry)) (now (second .entry)) (now (joined .entry)) r (now (joined .exit)) ⌝ }
+{
+    call_join::numbers(8, call_join::join_calls(first, second, joined))
 }
 
 // The copy table of the operation records, or 8, 10, 9; the value is the number of rows.

@@ -1,5 +1,5 @@
-// Internal to the workspace, not open to callers: what every maker answers before it writes a row. Assumes nothing but what each `requires`
-// says.
+// Internal to the workspace, not open to callers: the lowest bad record of a list, and what every maker answers before it writes a row.
+// Assumes nothing but what each `requires` says.
 ghost use mathlib.Core.Path.{_≡_};
 ghost use Prim.Native.Nat.{_^_, _≤_};
 ghost use Rattle.records.specs.Records.{recordCount, firstBad};
@@ -14,7 +14,7 @@ use records::tables::record_count;
 use records::tables::table_answer;
 
 // The lowest of the n records of w numbers that is not good, or n.
-fn first_bad(kind: RecordKind, list: &[u64], w: usize, n: usize) -> usize
+pub fn first_bad(kind: RecordKind, list: &[u64], w: usize, n: usize) -> usize
     requires { ⌜ (w ≡ kindWidth kind) × (n ≡ recordCount (kindWidth kind) (now list)) ⌝ }
     ensures { λ r. ⌜ r ≡ firstBad (kindWidth kind) (goodOfKind kind) (now (list .entry)) ⌝ }
 {

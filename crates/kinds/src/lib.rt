@@ -1,4 +1,4 @@
-// The kinds of records that a table is made of: how many numbers a record of each has, and which runs of numbers are one. Assumes nothing.
+// The kinds of records that lists hold: how many numbers a record of each has, and which runs of numbers are one. Assumes nothing.
 pub mod judge;
 
 ghost use mathlib.Core.Path.{_≡_};
@@ -7,14 +7,18 @@ use access::ACCESS_WIDTH;
 use access::REGISTER_WIDTH;
 use access::good_access;
 use access::good_register;
+use call::HANDED_WIDTH;
 use call::OP_WIDTH;
+use call::good_call;
 use call::good_op;
 
-// One kind for each form of a record: the copy table's; that of the general and the aligned table; the register table's.
+// One kind for each form of a record: the copy table's; that of the general and the aligned table; the register table's; a call as it is
+// handed in.
 pub enum RecordKind {
     Operation,
     Access,
     Register,
+    Call,
 }
 
 // Numbers in a record.
@@ -25,6 +29,7 @@ pub fn width_of(kind: RecordKind) -> usize
         RecordKind::Operation => OP_WIDTH,
         RecordKind::Access => ACCESS_WIDTH,
         RecordKind::Register => REGISTER_WIDTH,
+        RecordKind::Call => HANDED_WIDTH,
     }
 }
 
@@ -36,5 +41,6 @@ pub fn good_record(kind: RecordKind, op: &[u64]) -> bool
         RecordKind::Operation => good_op(op),
         RecordKind::Access => good_access(op),
         RecordKind::Register => good_register(op),
+        RecordKind::Call => good_call(op),
     }
 }

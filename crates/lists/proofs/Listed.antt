@@ -6,7 +6,7 @@ use mathlib.Core.List.{List, [], _∷_, _++_, flatMap, append-nil, cons-eq-cons}
 use Prim.Native.Nat.{ℕ, zero, suc, _+_, _-_, _≤_, _<_}
 use native.Mathlib.Nat.{add-zero, zero-add}
 use native.Mathlib.Omega.{arith}
-use lib.ListN.{length, take, length-append}
+use lib.ListN.{length, take, getD, length-append}
 use Rattle.lists.specs.Lists.{All, kept, listed, flat, picked, counted}
 use Rattle.lists.proofs.Joined.{flatMap-append}
 
@@ -52,6 +52,13 @@ each-listed P g k (suc n) all zero h = subst (λ (j : ℕ). P (g j)) (sym (add-z
 each-listed P g k (suc n) all (suc i) h =
     let e : k + 1 + i ≡ k + suc i = omega arith in
     subst (λ (j : ℕ). P (g j)) e (each-listed P g (k + 1) n (all .1) i (omega arith))
+
+-- the element in each place
+pub listed-at : {A : Type 0} (g : ℕ → A) (d : A) (k n i : ℕ) → i < n → getD (listed g k n) i d ≡ g (k + i)
+unfolding listed
+listed-at g d k zero i h = absurd (omega arith)
+listed-at g d k (suc n) zero h = ap g (sym (add-zero k))
+listed-at g d k (suc n) (suc i) h = let e : k + 1 + i ≡ k + suc i = omega arith in listed-at g d (k + 1) n i (omega arith) ∙ ap g e
 
 -- one more at the end
 pub listed-more : {A : Type 0} (g : ℕ → A) (k n : ℕ) → listed g k (suc n) ≡ listed g k n ++ (g (k + n) ∷ [])

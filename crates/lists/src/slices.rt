@@ -1,8 +1,8 @@
-// Internal to the workspace, not open to callers: copying and clearing lent slices, and counting. Assumes nothing but what each `requires` says.
+// Internal to the workspace, not open to callers: copying, clearing and reading lent slices, and counting. Assumes nothing but what each `requires` says.
 ghost use mathlib.Core.Path.{_≡_};
 ghost use Prim.Native.Nat.{_+_, _^_, _≤_, _<_};
 ghost use lib.ListN.{length, replicate};
-ghost use Rattle.lists.specs.Lists.{store};
+ghost use Rattle.lists.specs.Lists.{at, store};
 ghost use Rattle.lists.specs.Inner.{oneMore};
 
 // Copies `src` into `dst`, which is as long.
@@ -34,6 +34,13 @@ pub fn clear(row: &mut [u64])
         row[i] = 0;
         i += 1;
     }
+}
+
+// The number at index i, 0 past the end.
+pub fn number(list: &[u64], i: usize) -> u64
+    ensures { λ r. ⌜ r ≡ at (now (list .entry)) i ⌝ }
+{
+    if i < list.len() { list[i] } else { 0 }
 }
 
 // One more of `j`, if it is wanted.

@@ -9,7 +9,7 @@ use lib.Seq.{take-at, drop-at, drop-drop}
 use Rattle.lists.specs.Lists.{All, listed}
 use Rattle.lists.proofs.Flat.{row-within}
 use Rattle.lists.proofs.Joined.{flatMap-length}
-use Rattle.lists.proofs.Listed.{listed-same, all-listed, each-listed}
+use Rattle.lists.proofs.Listed.{listed-length, listed-same, listed-at, all-listed, each-listed}
 use Rattle.records.specs.Records.{recordCount, recordAt, recordsIn}
 use Rattle.records.proofs.Records.{record-count, record-length}
 
@@ -104,3 +104,12 @@ module _ (w : ℕ) (pos : 0 < w) where
 pub each-record : (w : ℕ) (P : List ℕ → Type 0) (l : List ℕ) → All P (recordsIn w l) → (k : ℕ) → k < recordCount w l → P (recordAt w l k)
 unfolding recordsIn
 each-record w P l all k h = subst (λ (j : ℕ). P (recordAt w l j)) (zero-add k) (each-listed P (recordAt w l) 0 (recordCount w l) all k h)
+
+-- how many they are, and record k among them
+pub records-count : (w : ℕ) (l : List ℕ) → length (recordsIn w l) ≡ recordCount w l
+unfolding recordsIn
+records-count w l = listed-length (recordAt w l) 0 (recordCount w l)
+
+pub records-at : (w : ℕ) (l : List ℕ) (k : ℕ) → k < recordCount w l → getD (recordsIn w l) k [] ≡ recordAt w l k
+unfolding recordsIn
+records-at w l k h = listed-at (recordAt w l) [] 0 (recordCount w l) k h ∙ ap (recordAt w l) (zero-add k)

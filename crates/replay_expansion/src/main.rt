@@ -1,6 +1,6 @@
-// Replays recorded calls of the expansion and loads through the exported functions. A question is the function's number and its parameters,
-// a list as its length and its numbers; the answer's three numbers are printed, then each lent list afterwards. A window past the first
-// edges is not written out: its cells are numbered, and those that a call changed are printed last. The file stdout has the oracle's
+// Replays recorded calls of the expansion, loads and joins through the exported functions. A question is the function's number and its
+// parameters, a list as its length and its numbers; the answer's three numbers are printed, then each lent list afterwards. A window past the
+// first edges is not written out: its cells are numbered, and those that a call changed are printed last. The file stdout has the oracle's
 // answers.
 use answer::Answer;
 ghost use mathlib.Core.Path.{_≡_};
@@ -247,7 +247,44 @@ fn ask_load(numbers: &[u64], at: usize) -> usize
     out_end
 }
 
-// One question: 0 collect_copy_ops, 1 generate_load, 2 collect_copy_ops over numbered cells.
+fn join(first: &[u64], second: &[u64], joined: &mut [u64]) {
+    replay::print_answer(exports::join_calls(first, second, joined));
+    replay::print_list(joined);
+}
+
+// The lent list of a question in a buffer.
+fn join_with(first: &[u64], second: &[u64], before: &[u64]) {
+    let mut joined = [0u64; 512];
+    let n = replay::load(before, &mut joined);
+    join(first, second, &mut joined[0..n]);
+}
+
+// join_calls: the two lists, then the list that is lent.
+fn ask_join(numbers: &[u64], at: usize) -> usize
+    requires { ⌜ at < length (now numbers) ⌝ }
+    ensures { λ r. ⌜ (at < r) × (r ≤ length (now (numbers .entry))) ⌝ }
+{
+    if numbers.len() - at <= 1 {
+        return numbers.len();
+    }
+    let first_end = replay::after_list(numbers, at + 1);
+    if numbers.len() <= first_end {
+        return numbers.len();
+    }
+    let second_end = replay::after_list(numbers, first_end);
+    if numbers.len() <= second_end {
+        return numbers.len();
+    }
+    let joined_end = replay::after_list(numbers, second_end);
+    join_with(
+        &numbers[at + 2..first_end],
+        &numbers[first_end + 1..second_end],
+        &numbers[second_end + 1..joined_end],
+    );
+    joined_end
+}
+
+// One question: 0 collect_copy_ops, 1 generate_load, 2 collect_copy_ops over numbered cells, 3 join_calls.
 fn ask(numbers: &[u64], at: usize) -> usize
     requires { ⌜ at < length (now numbers) ⌝ }
     ensures { λ r. ⌜ (at < r) × (r ≤ length (now (numbers .entry))) ⌝ }
@@ -257,6 +294,9 @@ fn ask(numbers: &[u64], at: usize) -> usize
     }
     if numbers[at] == 1 {
         return ask_load(numbers, at);
+    }
+    if numbers[at] == 3 {
+        return ask_join(numbers, at);
     }
     ask_numbered(numbers, at)
 }

@@ -16,6 +16,8 @@ ghost use Rattle.reg_access.specs.RegAccess.{RouteByInputs, PushTold};
 ghost use Rattle.routing.specs.InOrder.{RoutedInOrder};
 ghost use Rattle.lookups.specs.LookupLaws.{LookupLaws};
 ghost use Rattle.lookups.specs.Instances.{Instances as LookupInstances};
+ghost use Rattle.call_join.specs.JoinLaws.{JoinLaws};
+ghost use Rattle.call_join.specs.Instances.{Instances as JoinInstances};
 ghost use Rattle.expansion_rows.specs.WidthRule.{WidthRule, WidthCases};
 ghost use Rattle.expansion_rows.specs.RowsCut.{RowsAreCut};
 ghost use Rattle.expansion.specs.Consequences.{Consequences};
@@ -111,6 +113,14 @@ pub fn routed_in_order_holds() -> bool
 // that routing puts at their place; with small lists computed.
 pub fn lookup_laws_hold() -> bool
     ensures { λ r. ⌜ (r ≡ true) × LookupLaws × LookupInstances ⌝ }
+{
+    true
+}
+
+// The join in document 02's words, both ways: it has every property that is asked for, and no other list has them; 20 is answered exactly if
+// a list is out of order. With small lists computed, among them two Write calls of which the later one meets 4 once they are joined.
+pub fn join_laws_hold() -> bool
+    ensures { λ r. ⌜ (r ≡ true) × JoinLaws × JoinInstances ⌝ }
 {
     true
 }

@@ -4,6 +4,7 @@
 mod accesses;
 mod field;
 mod goldilocks;
+mod join;
 mod lists;
 mod load;
 pub mod one_pass;
@@ -59,6 +60,7 @@ pub fn run(kinds: &[&str]) -> Result<(), String> {
     accesses::lookups(&mut report);
     lists::run(&mut report);
     load::run(&mut report);
+    join::run(&mut report);
     print!("{}", report.text());
     Ok(())
 }

@@ -3,13 +3,14 @@
 //! must leave alone is compared too. A run fails if anything differs, and if a function, a
 //! refusal or a length at the limit that it should have met did not occur.
 
+mod joins;
 mod loads;
 mod tally;
 
 use crate::bench::keep_memory;
 use crate::exported;
 use crate::generate::programs::question_of;
-use crate::generate::{Generator, carries, load, lookups};
+use crate::generate::{Generator, carries, join, load, lookups};
 use crate::inputs;
 use crate::protocol::{Argument, FUNCTIONS, Question, Reply};
 use crate::side::EXPORTED;
@@ -53,11 +54,14 @@ pub fn run(seed: u64, seconds: u64, kinds: &[&str]) -> Result<(), String> {
         cases += comparison.tally.cases;
         mismatches += comparison.tally.mismatches;
         faults.extend(comparison.tally.missing());
-        if name == "generate_load" {
-            match loads::run(seed) {
-                Ok(seen) => print!("{seen}"),
-                Err(why) => faults.push(why),
-            }
+        let after = match name {
+            "generate_load" => loads::run(seed),
+            join::JOIN => joins::run(seed),
+            _ => Ok(String::new()),
+        };
+        match after {
+            Ok(seen) => print!("{seen}"),
+            Err(why) => faults.push(why),
         }
     }
     println!("seed {seed}: {cases} cases, {mismatches} mismatches");
@@ -100,6 +104,7 @@ fn first(name: &str, seed: u64) -> Result<Vec<Question>, String> {
         }
         carries::MAKER => Ok(carries::questions(seed)),
         "generate_load" => Ok(load::always()),
+        join::JOIN => Ok(join::always()),
         lookups::LOOKUPS => Ok(lookups::always()),
         _ => Ok(Vec::new()),
     }

@@ -2,9 +2,10 @@
 
 use crate::generate::carries;
 use crate::generate::edges;
+use crate::generate::join::{self, JOIN};
 use crate::generate::long::EDGES;
 use crate::generate::lookups::{self, LOOKUPS, PAIR};
-use crate::oracle::records::{ACCESS, OPERATION, REGISTER};
+use crate::oracle::records::{ACCESS, HANDED, OPERATION, REGISTER};
 use crate::oracle::{COPY_COLUMNS, LIST_LIMIT};
 use crate::protocol::{Argument, FUNCTIONS, Question, Reply};
 use std::collections::BTreeSet;
@@ -13,8 +14,8 @@ use std::fmt::Write as _;
 /// A list of more records than this is a long one.
 const SHORT: usize = 1000;
 
-/// Refusals go up to 19.
-const ANSWERS: usize = 20;
+/// Refusals go up to 20.
+const ANSWERS: usize = 21;
 
 /// So many loads from different numbers are compared at least.
 const SEEDS: usize = 10_000;
@@ -55,6 +56,11 @@ pub struct Tally {
     /// own place.
     pairs: BTreeSet<[u64; PAIR]>,
     displaced: u64,
+    /// Joined lists with a stamp that is in both; pairs of lists with more than one thing to
+    /// refuse; and by which list each number refused.
+    shared: u64,
+    several: u64,
+    by_list: BTreeSet<(u64, usize)>,
 }
 
 impl Tally {
@@ -78,6 +84,9 @@ impl Tally {
             met: BTreeSet::new(),
             pairs: BTreeSet::new(),
             displaced: 0,
+            shared: 0,
+            several: 0,
+            by_list: BTreeSet::new(),
         }
     }
 
@@ -118,6 +127,39 @@ impl Tally {
         if self.name == LOOKUPS && number == 0 {
             self.saw_pairs(question, reply);
         }
+        if self.name == JOIN {
+            self.saw_lists(question, number);
+        }
+    }
+
+    /// Two lists to join: what of them could be refused, and which list was.
+    fn saw_lists(&mut self, question: &Question, number: u64) {
+        let lists: Vec<&[u64]> = question.lists(false).map(Vec::as_slice).collect();
+        let refused = [lists[0], lists[1]].map(join::refused);
+        self.several += u64::from(refused.iter().flatten().filter(|&&by| by).count() > 1);
+        match join::REFUSALS.iter().position(|&by| by == number) {
+            Some(by) => _ = self.by_list.insert((number, usize::from(!refused[0][by]))),
+            None => self.shared += u64::from(number == 0 && join::shared([lists[0], lists[1]])),
+        }
+    }
+
+    /// What the two lists should have been and were not.
+    fn unjoined(&self) -> Vec<String> {
+        let mut faults = Vec::new();
+        for (list, which) in ["first", "second"].into_iter().enumerate() {
+            for number in join::REFUSALS {
+                if !self.by_list.contains(&(number, list)) {
+                    faults.push(format!("{JOIN}: never {number} of the {which} list"));
+                }
+            }
+        }
+        if 4 * self.shared < self.answers[0] {
+            faults.push(format!("{JOIN}: few joined lists with a stamp of both"));
+        }
+        if 20 * self.several < self.cases {
+            faults.push(format!("{JOIN}: few pairs with several things to refuse"));
+        }
+        faults
     }
 
     /// An answer that counts more pairs than the list can hold is the comparison's to find.
@@ -236,6 +278,9 @@ impl Tally {
         if name == LOOKUPS {
             faults.extend(self.unpaired());
         }
+        if name == JOIN {
+            faults.extend(self.unjoined());
+        }
         if name == carries::MAKER {
             let seen = carries::HIGH_WORDS.map(|high| self.high_words.contains(&high));
             if self.carries.contains(&0) || seen.contains(&false) {
@@ -309,6 +354,8 @@ impl Tally {
                 self.displaced,
                 "lists with a pair that is not of the record at its place",
             ),
+            (self.shared, "joined lists with a stamp that is in both"),
+            (self.several, "pairs of lists with several things to refuse"),
             (self.whole_rows, "rows asked for all their residues"),
             (self.in_turn, "in turn over what the call before left"),
         ];
@@ -334,6 +381,7 @@ fn unit(name: &str) -> Option<(usize, usize)> {
         "add_pair" => (3, 1),
         "callcheck" => (0, 1),
         "generate_load" => (1, 1),
+        JOIN => (0, HANDED),
         _ => return None,
     };
     Some(unit)
@@ -342,6 +390,10 @@ fn unit(name: &str) -> Option<(usize, usize)> {
 /// Records of the function's list, a cut one not counted.
 fn length(question: &Question) -> Option<usize> {
     let (argument, width) = unit(question.name())?;
+    if question.name() == JOIN {
+        // The longer of the two.
+        return question.lists(false).map(|list| list.len() / width).max();
+    }
     match &question.arguments[argument] {
         Argument::List(list) => Some(list.len() / width),
         // A load is as long as it is wanted; far past the limit it is none.

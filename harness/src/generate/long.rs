@@ -6,7 +6,7 @@ use super::expansion::Window;
 use super::lists::{self, Rows};
 use super::numbers::{gap, junk};
 use super::records::{self, Kind};
-use super::{load, lookups, operands, programs, rows};
+use super::{join, load, lookups, operands, programs, rows};
 use crate::oracle::records::{ACCESS, HANDED, REGISTER};
 use crate::oracle::{LIST_LIMIT, route_by_words};
 use crate::protocol::{Argument, Question, Reply};
@@ -147,6 +147,7 @@ fn question(rng: &mut Rng, kind: &str, length: usize, shape: Shape) -> Option<Qu
         "add_pair" => operands::long_question(rng, length),
         "callcheck" => programs::long_question(rng, length),
         "generate_load" => calls(rng, length, shape),
+        join::JOIN => joined(rng, length, shape),
         _ if kind.starts_with("generate_") => table(rng, kind, length, shape),
         _ if kind.ends_with("_residue") => rows::long_question(rng, kind, length),
         _ => return None,
@@ -191,6 +192,24 @@ fn table(rng: &mut Rng, name: &str, length: usize, shape: Shape) -> Question {
 fn calls(rng: &mut Rng, length: usize, shape: Shape) -> Question {
     let out = buffer(rng, HANDED * length, shape);
     load::asked(rng.number(), length as u64, out)
+}
+
+/// A list of so many calls and another, in either place; by the shape one call is bad or out of
+/// order, or a part of one more stands behind.
+fn joined(rng: &mut Rng, length: usize, shape: Shape) -> Question {
+    let [first, second] = join::beside(rng, length, |rng, start| {
+        let mut calls = join::in_order(rng, start, length);
+        if shape == Bad && length > 0 {
+            join::spoil(rng, &mut calls);
+        }
+        let mut list = calls.concat();
+        if shape == Cut {
+            list.extend(vec![0; 1 + rng.place(HANDED - 1)]);
+        }
+        list
+    });
+    let joined = buffer(rng, first.len() + second.len(), shape);
+    join::asked(first, second, joined)
 }
 
 fn route(rng: &mut Rng, length: usize, shape: Shape) -> Question {

@@ -4,6 +4,7 @@ pub mod calls;
 pub mod carries;
 pub mod edges;
 mod expansion;
+pub mod join;
 pub mod lists;
 pub mod load;
 pub mod long;
@@ -121,6 +122,7 @@ fn question(rng: &mut Rng, kind: &str) -> Question {
         "row_check" => row_check::question(rng),
         "read_back" => lists::read_question(rng),
         "generate_load" => load::question(rng),
+        join::JOIN => join::question(rng),
         "callcheck" => programs::question(rng),
         _ if kind.ends_with("residue") => rows::residue_question(rng, kind),
         _ => records::table_question(rng, kind),

@@ -3,6 +3,7 @@
 //! leave.
 
 mod examples;
+mod join;
 mod lists;
 mod load;
 mod replies;
@@ -74,6 +75,7 @@ pub fn run(seed: u64, count: u64) -> (String, u64) {
     examples::run(&mut report);
     lists::run(&mut report, seed, count);
     load::run(&mut report, seed, count);
+    join::run(&mut report, seed, count);
     replies::run(&mut report, seed, count);
     widths::run(&mut report, seed, count);
     (report.text, report.failures)

@@ -1,9 +1,9 @@
--- `flat::number`: past the end a list reads as 0. Assumes nothing.
+-- `slices::number`: past the end a list reads as 0. Assumes nothing.
 use borrow.Author.Needs.{needs}
 use denote.Ref.{now}
-use Rattle.add_pair.proofs.Terms.{past}
-use Rattle.add_pair.proofs.flat.number.Statement.{statement}
-use Rattle.add_pair.proofs.flat.number.Tie as tie
+use Rattle.lists.proofs.Numbers.{past}
+use Rattle.lists.proofs.slices.number.Statement.{statement}
+use Rattle.lists.proofs.slices.number.Tie as tie
 
 pub number-spec : {M : Type 1} → statement M
 number-spec =

@@ -1,0 +1,5 @@
+pub mod Join
+pub mod JoinLaws
+pub mod Steps
+pub mod Instances
+pub mod Inner
