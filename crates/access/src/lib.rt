@@ -28,7 +28,7 @@ pub const OLD_TIMESTAMP: usize = 21;
 pub const ACCESS_WIDTH: usize = 29;
 
 // The three access tables. Each has a list of records of its own.
-#[derive(Drop)]
+#[derive(Clone, Copy)]
 pub enum AccessTable {
     // memw.rs: bytes with different old stamps, or an unaligned access.
     General,

@@ -13,14 +13,14 @@ use operands::judge::pair_verdict;
 use operands::value::pair_values;
 
 // Where reading a flat list stands.
-#[derive(Drop)]
+#[derive(Clone, Copy)]
 pub enum Walk {
     At(usize),
     Malformed,
 }
 
 // What a flat list is: two neighbouring columns; two sums, with their numbers of terms and the index of the first high term; or neither.
-#[derive(Drop)]
+#[derive(Clone, Copy)]
 pub enum FlatForm {
     Words { column: u64 },
     Sums { low: u64, high: u64, start: usize },
@@ -28,7 +28,7 @@ pub enum FlatForm {
 }
 
 // Three numbers were written, or a refusal.
-#[derive(Drop)]
+#[derive(Clone, Copy)]
 pub enum AddPairAnswer {
     Written,
     // 10: a list that is no flat operand

@@ -6,7 +6,7 @@ ghost use Rattle.answer.specs.Numbers.{accepted, refused};
 // `number` is 0 on success, else the refusal's number; `place` is the refusal's place, and 0 on success; `value` is
 // what the function found, the residue's index for 16, and 0 for any other refusal.
 #[repr(C)]
-#[derive(Drop)]
+#[derive(Clone, Copy)]
 pub struct Answer {
     pub number: u64,
     pub place: u64,

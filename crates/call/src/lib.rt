@@ -10,7 +10,7 @@ ghost use Rattle.call.specs.Entries.{good_entry};
 use records::tables::within_limits;
 
 // Which functionality a row is running: document 01's kind.
-#[derive(Drop)]
+#[derive(Clone, Copy)]
 pub enum Functionality {
     // memcpy and memmove: all reads, then the writes.
     Copy,
@@ -21,7 +21,7 @@ pub enum Functionality {
 }
 
 // A call, or what remains of one from some row on. The kind is its number.
-#[derive(Drop)]
+#[derive(Clone, Copy)]
 pub struct CopyCall {
     pub kind: u64,
     pub timestamp: u64,

@@ -10,7 +10,7 @@ use answer::{Answer, accept, refuse};
 use records::LIMIT;
 
 // One case for each answer of the join: how many calls are written; 8, 10 and 20, of either list; and 9 for the lent buffer.
-#[derive(Drop)]
+#[derive(Clone, Copy)]
 pub enum JoinAnswer {
     Joined { calls: usize },
     TooManyRecords,

@@ -14,14 +14,14 @@ use text::print::put_refused;
 use text::{NEWLINE, Parsed, head, parse_gap, tail};
 
 // What one line comes to: the rows of its call, or the number that refuses it.
-#[derive(Drop)]
+#[derive(Clone, Copy)]
 pub enum Step {
     Rows { rows: usize },
     Stop { number: u64 },
 }
 
 // What all call lines come to: the live rows, or the lowest line that is refused and the number.
-#[derive(Drop)]
+#[derive(Clone, Copy)]
 pub enum Ran {
     Done { rows: usize },
     Refused { number: u64, line: u64 },

@@ -3,7 +3,7 @@ pub mod ahead;
 pub mod turns;
 
 // How many operation records the expansion writes, and how many calls it accepts.
-#[derive(Drop)]
+#[derive(Clone, Copy)]
 pub struct Counts {
     pub ops: usize,
     pub calls: usize,

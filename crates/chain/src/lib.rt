@@ -12,7 +12,7 @@ use copy_residues::faults::RowCheckRefusal;
 use row_check::fault_numbers;
 
 // Why the link check refuses what comes after a row.
-#[derive(Drop)]
+#[derive(Clone, Copy)]
 pub enum LinkRefusal {
     // 17: a row that may not stand where it stands
     Broken,
@@ -22,7 +22,7 @@ pub enum LinkRefusal {
 
 // Why a row list is refused: what the row check says of a row, or the link check of a place. Whoever checks the chain first hands this on
 // as it is.
-#[derive(Drop)]
+#[derive(Clone, Copy)]
 pub enum ChainRefusal {
     // 7: the gap is 2^32 or more
     GapTooLarge,
@@ -34,7 +34,7 @@ pub enum ChainRefusal {
     Link { place: u64, why: LinkRefusal },
 }
 
-#[derive(Drop)]
+#[derive(Clone, Copy)]
 pub enum ChainAnswer {
     Passed { rows: u64 },
     Refused { why: ChainRefusal },

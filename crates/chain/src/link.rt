@@ -14,7 +14,7 @@ use crate::LinkRefusal;
 use copy_residues::range::HALF;
 use copy_row::cols;
 
-#[derive(Drop)]
+#[derive(Clone, Copy)]
 pub enum LinkFault {
     Linked,
     Unlinked { why: LinkRefusal },

@@ -9,7 +9,7 @@ use answer::{Answer, accept, refuse};
 
 // The table that takes an access, as the Rust answers it. The order of the cases is that of the tests, and matters: what the register table
 // takes, the aligned table would take too.
-#[derive(Drop)]
+#[derive(Clone, Copy)]
 pub enum MemwRoute {
     Register,
     Aligned,
@@ -18,7 +18,7 @@ pub enum MemwRoute {
 
 // The route that is answered: the Rust's, and of the register table the low stamp difference less one, 0 to 65,535, which a row of it sends
 // to the half-word lookup.
-#[derive(Drop)]
+#[derive(Clone, Copy)]
 pub enum AccessRoute {
     Register { delta_less_one: u64 },
     Aligned,
@@ -26,7 +26,7 @@ pub enum AccessRoute {
 }
 
 // The route, or document 01's refusal 10.
-#[derive(Drop)]
+#[derive(Clone, Copy)]
 pub enum ClassifyAnswer {
     Route(AccessRoute),
     BadRecord,
@@ -34,7 +34,7 @@ pub enum ClassifyAnswer {
 
 // An answer that has a route, in numbers: document 01's three, the value being the Rust's route, and the number that the route carries, 0
 // where it carries none.
-#[derive(Drop)]
+#[derive(Clone, Copy)]
 pub struct AccessNumbers {
     pub answer: Answer,
     pub delta_less_one: u64,

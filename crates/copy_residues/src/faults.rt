@@ -1,7 +1,7 @@
 // Internal to the workspace, not open to callers: what a copy row is found to be by itself. Assumes nothing.
 
 // Why the row check refuses a row. Whoever checks rows hands this on as it is, with the row.
-#[derive(Drop)]
+#[derive(Clone, Copy)]
 pub enum RowCheckRefusal {
     // 14: a number not below p
     NotElement,
@@ -11,7 +11,7 @@ pub enum RowCheckRefusal {
     NotZero { index: u64 },
 }
 
-#[derive(Drop)]
+#[derive(Clone, Copy)]
 pub enum RowFault {
     Fine,
     Faulty { why: RowCheckRefusal },

@@ -18,7 +18,7 @@ use parts::parts_of;
 use residues::{NUM_RESIDUES, residue_with};
 
 // A residue, or why there is none.
-#[derive(Drop)]
+#[derive(Clone, Copy)]
 pub enum ResidueAnswer {
     Residue(u64),
     // 7: the gap is 2^32 or more

@@ -9,7 +9,7 @@ use crate::carries;
 use copy_row::cols;
 
 // The gap, and what a row's residues share.
-#[derive(Drop)]
+#[derive(Clone, Copy)]
 pub struct Parts {
     pub gap: u64,
     // the row's width, 8 - 7 SINGLE

@@ -11,7 +11,7 @@ ghost use Rattle.copy_row.specs.Trace.{CopyDone};
 use records::{LIMIT, TableAnswer};
 
 // An operation record: one row's piece of a call, with the call as it remains at this row. The kind is its number.
-#[derive(Drop)]
+#[derive(Clone, Copy)]
 pub struct CopyOperation {
     pub timestamp: u64,
     pub src: u64,

@@ -14,7 +14,7 @@ pub mod expand;
 pub mod judge;
 
 // One case for each answer of the expansion.
-#[derive(Drop)]
+#[derive(Clone, Copy)]
 pub enum ExpansionAnswer {
     // nothing is refused: how many operation and access records are written
     Expanded { ops: usize, accesses: usize },

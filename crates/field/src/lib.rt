@@ -10,7 +10,7 @@ use answer::{Answer, accept, refuse};
 use element::P;
 
 // An element, or which of the two inputs is none.
-#[derive(Drop)]
+#[derive(Clone, Copy)]
 pub enum FieldAnswer {
     Element(u64),
     NotElement { place: u64 },

@@ -7,7 +7,7 @@ use crate::element::P;
 use answer::{Answer, refuse};
 
 // Why nothing is answered of a row. Whoever asks for something on a row hands this on as it is.
-#[derive(Drop)]
+#[derive(Clone, Copy)]
 pub enum RowRefusal {
     // 12: no residue of this number, an operand of more than four terms, or a column outside the row
     OutsideRow,
@@ -18,7 +18,7 @@ pub enum RowRefusal {
 }
 
 // What a row is found to be.
-#[derive(Drop)]
+#[derive(Clone, Copy)]
 pub enum RowVerdict {
     Fine,
     Refused { why: RowRefusal },

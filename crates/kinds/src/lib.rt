@@ -9,7 +9,7 @@ use call::{ENTRY_WIDTH, HANDED_WIDTH, OP_WIDTH, good_call, good_entry, good_op};
 
 // One kind for each form of a record: the copy table's; that of the general and the aligned table; the register table's; a call as it is
 // handed in; an entry of rights.
-#[derive(Drop)]
+#[derive(Clone, Copy)]
 pub enum RecordKind {
     Operation,
     Access,

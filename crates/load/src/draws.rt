@@ -16,14 +16,14 @@ const MULTIPLIER: u64 = 6364136223846793005;
 const INCREMENT: u64 = 1442695040888963407;
 
 // A number that was drawn, and the state after it.
-#[derive(Drop)]
+#[derive(Clone, Copy)]
 pub struct Drawn {
     pub value: u64,
     pub state: u64,
 }
 
 // A call as it is handed in, and the state and the index after it.
-#[derive(Drop)]
+#[derive(Clone, Copy)]
 pub struct LoadCall {
     pub numbers: [u64; 5],
     pub state: u64,

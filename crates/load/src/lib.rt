@@ -11,7 +11,7 @@ use draws::write_calls;
 use records::LIMIT;
 
 // One case for each answer of the load.
-#[derive(Drop)]
+#[derive(Clone, Copy)]
 pub enum LoadAnswer {
     // nothing is refused: how many calls are written
     Written { calls: u64 },

@@ -10,7 +10,7 @@ use answer::{Answer, accept, refuse};
 use records::LIMIT;
 
 // One case for each answer of the lookups: how many pairs are written, routing's refusals 8, 10 and 11, and 9 for the lookups' own buffer.
-#[derive(Drop)]
+#[derive(Clone, Copy)]
 pub enum LookupAnswer {
     Written { pairs: usize },
     TooManyRecords,

@@ -16,7 +16,7 @@ use access::AccessTable;
 use records::{LIMIT, TableAnswer};
 
 // An access, of an access record of 29 numbers.
-#[derive(Drop)]
+#[derive(Clone, Copy)]
 pub struct MemwOperation {
     // 1 for a register, 0 for memory.
     pub is_register: u64,
@@ -33,7 +33,7 @@ pub struct MemwOperation {
 }
 
 // A register access, of a register record of 8 numbers.
-#[derive(Drop)]
+#[derive(Clone, Copy)]
 pub struct RegRow {
     pub index: u64,
     pub timestamp: u64,

@@ -14,7 +14,7 @@ use field::rows::{RowRefusal, row_refusal_numbers};
 use residues::residue_in;
 
 // A residue, or why there is none.
-#[derive(Drop)]
+#[derive(Clone, Copy)]
 pub enum MemwResidueAnswer {
     Residue(u64),
     // 12, 13, 14
@@ -22,7 +22,7 @@ pub enum MemwResidueAnswer {
 }
 
 // The columns that both the general and the aligned table's residues read.
-#[derive(Drop)]
+#[derive(Clone, Copy)]
 pub struct Flags {
     pub mu_read: u64,
     pub mu_write: u64,

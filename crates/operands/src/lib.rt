@@ -13,27 +13,27 @@ use judge::{operands_in_row, pair_verdict};
 use value::{carries, pair_values};
 
 // A term of a sum: a constant, or a coefficient times a column.
-#[derive(Drop)]
+#[derive(Clone, Copy)]
 pub enum AddLinearTerm {
     Constant(i64),
     Column { coefficient: i64, column: usize },
 }
 
 // A term's place in an array.
-#[derive(Drop)]
+#[derive(Clone, Copy)]
 pub struct TermCell {
     pub term: AddLinearTerm,
 }
 
 // Two neighbouring word columns, by the low one; or a low and a high sum, by how many terms each has.
-#[derive(Drop)]
+#[derive(Clone, Copy)]
 pub enum OperandKind {
     Words { column: usize },
     Sums { low: usize, high: usize },
 }
 
 // An operand of a 64-bit sum. Terms past a sum's number are not looked at.
-#[derive(Drop)]
+#[derive(Clone, Copy)]
 pub struct AddOperand {
     pub kind: OperandKind,
     pub low: [TermCell; 4],
@@ -41,14 +41,14 @@ pub struct AddOperand {
 }
 
 // The two residues of `emit_add_pair`, or 12, 13, 14.
-#[derive(Drop)]
+#[derive(Clone, Copy)]
 pub enum PairAnswer {
     Residues { low: u64, high: u64 },
     Refused { why: RowRefusal },
 }
 
 // The carry of `add_pair_carry_hi`, or 12, 13, 14.
-#[derive(Drop)]
+#[derive(Clone, Copy)]
 pub enum CarryAnswer {
     Carry(u64),
     Refused { why: RowRefusal },

@@ -13,14 +13,14 @@ use copy_residues::carries::{carry_high, carry_low};
 use field::element::{P, add, is_bit, mul};
 
 // The carries c0 and c1.
-#[derive(Drop)]
+#[derive(Clone, Copy)]
 pub struct CarryPair {
     pub low: u64,
     pub high: u64,
 }
 
 // The two residues of `emit_add_pair` and the high carry.
-#[derive(Drop)]
+#[derive(Clone, Copy)]
 pub struct PairValues {
     pub low: u64,
     pub high: u64,

@@ -9,7 +9,7 @@ use answer::{Answer, accept, refuse};
 use chain::check::check;
 use chain::{ChainAnswer, ChainRefusal, refusal_numbers};
 
-#[derive(Drop)]
+#[derive(Clone, Copy)]
 pub enum ReadBackAnswer {
     // nothing is refused: how many operation records and calls are written
     Read { ops: u64, calls: u64 },

@@ -18,7 +18,7 @@ use records::tables::record_at;
 use row_test::row::words_at;
 
 // How many operation records and calls are read.
-#[derive(Drop)]
+#[derive(Clone, Copy)]
 pub struct Counts {
     pub ops: usize,
     pub calls: usize,

@@ -10,7 +10,7 @@ pub mod tables;
 pub const LIMIT: usize = 65536;
 
 // One case for each answer that a table maker can give. Document 01: tables refuse with "8, 10, 11, 9"; 11 is routing's alone.
-#[derive(Drop)]
+#[derive(Clone, Copy)]
 pub enum TableAnswer {
     Made { rows: usize },
     TooManyRecords,

@@ -15,14 +15,14 @@ use classify::{AccessNumbers, AccessRoute, access_numbers, access_refused};
 use words::bit;
 
 // The route, or document 01's refusal 11.
-#[derive(Drop)]
+#[derive(Clone, Copy)]
 pub enum RegAccessAnswer {
     Pushed(AccessRoute),
     BadAddress,
 }
 
 // The answer, and the record as the route's list has it: 8 numbers and zeros for the register table, else 29; zeros if refused.
-#[derive(Drop)]
+#[derive(Clone, Copy)]
 pub struct RegAccess {
     pub answer: RegAccessAnswer,
     pub written: [u64; 29],

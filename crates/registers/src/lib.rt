@@ -11,7 +11,7 @@ use lists::slices::put_at;
 use words::words;
 
 // Register r holds values[r] since stamps[r]; the commit index (x254) and the program counter (x255) likewise.
-#[derive(Drop)]
+#[derive(Clone, Copy)]
 pub struct RegisterState {
     pub values: [u64; 32],
     pub stamps: [u64; 32],
@@ -22,7 +22,7 @@ pub struct RegisterState {
 }
 
 // One case for each answer of a register step: the number of its accesses, or document 01's refusals 4, 5 and 6.
-#[derive(Drop)]
+#[derive(Clone, Copy)]
 pub enum StepAnswer {
     Stepped { records: u64 },
     NotCommitIndex,
@@ -31,7 +31,7 @@ pub enum StepAnswer {
 }
 
 // A register step: the answer, the state behind it, and four access records. A step that is refused leaves the state as it was.
-#[derive(Drop)]
+#[derive(Clone, Copy)]
 pub struct RegisterStep {
     pub answer: StepAnswer,
     pub state: RegisterState,

@@ -4,7 +4,7 @@ pub mod cover;
 pub mod entries;
 
 // What is wrong with a call's party and the entries, if anything is.
-#[derive(Drop)]
+#[derive(Clone, Copy)]
 pub enum ClaimAnswer {
     // nothing: the entries are accepted
     Good,

@@ -7,7 +7,7 @@ ghost use Rattle.round_trip.specs.Trip.{trip_lent, trip_of, round_trip_numbers, 
 ghost use Rattle.round_trip.specs.RoundTrip.{RoundTrip};
 ghost use Rattle.round_trip.specs.Instances.{Instances};
 
-#[derive(Drop)]
+#[derive(Clone, Copy)]
 pub enum RoundTripAnswer {
     // nothing is refused: how many rows the table has, and how many operation records and calls came back
     Passed {

@@ -9,7 +9,7 @@ ghost use Rattle.routing.specs.Routing.{lists, route_numbers, RouteDone};
 use records::LIMIT;
 
 // One case for each answer of routing: how many records each list got, or document 01's refusals 8, 10, 11 and 9.
-#[derive(Drop)]
+#[derive(Clone, Copy)]
 pub enum RouteAnswer {
     Routed {
         register: usize,
@@ -27,7 +27,7 @@ pub enum RouteAnswer {
 }
 
 // An answer in document 01's numbers: 0 or the refusal's number, its place, and the three counts.
-#[derive(Drop)]
+#[derive(Clone, Copy)]
 pub struct RouteNumbers {
     pub number: u64,
     pub place: u64,

@@ -14,7 +14,7 @@ use lists::slices;
 use records::tables::{record_at, record_count};
 
 // A number for each list: how many records went there, or how long it is.
-#[derive(Drop)]
+#[derive(Clone, Copy)]
 pub struct Counts {
     pub register: usize,
     pub aligned: usize,

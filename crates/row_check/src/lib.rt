@@ -13,7 +13,7 @@ use fault::row_fault;
 use field::rows::first_large;
 
 // What one row is found to be.
-#[derive(Drop)]
+#[derive(Clone, Copy)]
 pub enum RowAnswer {
     Passed,
     // 7: the gap is 2^32 or more

@@ -19,7 +19,7 @@ pub const TAB: u8 = 9;
 pub const NEWLINE: u8 = 10;
 
 // What a text says as a number.
-#[derive(Drop)]
+#[derive(Clone, Copy)]
 pub enum Parsed {
     Number { value: u64 },
     // Not 1 to 20 digits, or past 2^64 - 1.
@@ -27,14 +27,14 @@ pub enum Parsed {
 }
 
 // What a call line's first word says.
-#[derive(Drop)]
+#[derive(Clone, Copy)]
 pub enum Word {
     Known { kind: Functionality },
     Unknown,
 }
 
 // A call line, or a line of another form, which is refused with 10.
-#[derive(Drop)]
+#[derive(Clone, Copy)]
 pub enum Line {
     Call {
         kind: Functionality,
