@@ -3,14 +3,14 @@ use borrow.Author.Tests.{eq-eqb, ne_eqb}
 use Rattle.call.proofs.kind_of.Statement.{statement}
 use Rattle.call.proofs.kind_of.Tie as tie
 
-returns : tie.Need-returns
-returns c = rw (eq-eqb _ _ c.if1.true)
+returns : tie.Need-returns-then-kind-eq0
+returns c = rw (eq-eqb _ _ c.if-kind-eq0.true)
 
-returns_2 : tie.Need-returns-2
-returns_2 c = rw (ne_eqb _ _ c.before.if1.false, eq-eqb _ _ c.if2.true)
+returns_2 : tie.Need-returns-then-kind-eq1
+returns_2 c = rw (ne_eqb _ _ c.before.if-kind-eq0.false, eq-eqb _ _ c.if-kind-eq1.true)
 
-returns_3 : tie.Need-returns-3
-returns_3 c = rw (ne_eqb _ _ c.before.if1.false, ne_eqb _ _ c.if2.false)
+returns_3 : tie.Need-returns-then-kind-eq0
+returns_3 c = rw (ne_eqb _ _ c.before.if-kind-eq0.false, ne_eqb _ _ c.if-kind-eq1.false)
 
 pub kind_of_spec : {M : Type 1} → statement M
 kind_of_spec = tie.close (tie.spec returns returns_2 returns_3)

@@ -7,8 +7,8 @@ use Rattle.lists.proofs.Store.{length_store}
 use Rattle.callcheck.proofs.main.Statement.{statement}
 use Rattle.callcheck.proofs.main.Tie as tie
 
-part_write_all_end : tie.Need-slice-bounds-write-all-end
-part_write_all_end c = omega (arith, simp length_store at (ap length c.before.answer.ensures.1))
+part_write_all_end : tie.Need-slice_bounds-write_all-end
+part_write_all_end c = omega (arith, simp length_store at (ap length c.before.answer-k.ensures.1))
 
 pub main_spec : {M : Type 1} → statement M
 main_spec =

@@ -19,39 +19,39 @@ use Rattle.callcheck_text.proofs.answer.Tie as tie
 read_gap : {p q : Parsed} {piece t : List ℕ} → piece ≡ t → p ≡ gap_of piece → p ≡ q → gap_of t ≡ q
 read_gap e f g = sym (f ∙ ap gap_of e) ∙ g
 
-no_gap_line : tie.Need-returns
+no_gap_line : tie.Need-returns-in_default
 no_gap_line c =
     let at_enum_told = c.before.before in
     let at_parse_gap = at_enum_told.before.before in
     let line = c.Put-refused.ensures in
     let at_gap = at_parse_gap in
     all_written (wrote line.0.0 line.1)
-    (no_gap _ (read_gap at_gap.before.head.ensures at_gap.parse_gap.ensures at_enum_told.enum_told.given.1))
+    (no_gap _ (read_gap at_gap.before.head.ensures at_gap.parse_gap-first.ensures at_enum_told.enum_told-1.given.1))
     (omega arith)
 
-gap_too_large_lem : tie.Need-returns-2
+gap_too_large_lem : tie.Need-returns-then-gap-ge4294967296
 gap_too_large_lem c =
     let at_if1 = c.before.before in
     let at_first = at_if1.before.before in
-    let line = c.put-refused2.ensures in
+    let line = c.put_refused-then-gap-ge4294967296.ensures in
     let at_value = at_first in
     let at_gap = at_value.before.before in
     all_written (wrote line.0.0 line.1)
-    (wide_gap _ _ (read_gap at_gap.before.head.ensures at_gap.parse_gap.ensures at_value.first.given.1)
-    (omega (arith, at_if1.if1.true)))
+    (wide_gap _ _ (read_gap at_gap.before.head.ensures at_gap.parse_gap-first.ensures at_value.first-1.given.1)
+    (omega (arith, at_if1.if-gap-ge4294967296.true)))
     (omega arith)
 
-call_lines : tie.Need-returns-3
+call_lines : tie.Need-returns-in_default
 call_lines c =
     let at_if1 = c.before.before.before in
     let at_first = at_if1.before.before in
     let line = c.put_calls.ensures in
     let at_value = at_first in
     let at_gap = at_value.before.before in
-    let gap = at_value.first.given in
+    let gap = at_value.first-1.given in
     all_written (wrote (line.0.0 ∙ sym (zero-add _)) line.1)
     (ap (λ (l : List ℕ). ending_text gap.0.0 (lines_from (under gap.0.0) 2 (lines l) start)) c.before.tail.ensures
-    ∙ good_gap _ _ (read_gap at_gap.before.head.ensures at_gap.parse_gap.ensures gap.1) at_if1.if1.false)
+    ∙ good_gap _ _ (read_gap at_gap.before.head.ensures at_gap.parse_gap-first.ensures gap.1) at_if1.if-gap-ge4294967296.false)
     (omega arith)
 
 pub answer_spec : {M : Type 1} → statement M

@@ -9,13 +9,13 @@ use Rattle.expansion.proofs.collect_copy_ops.Statement.{statement}
 use Rattle.expansion.proofs.collect_copy_ops.Tie as tie
 
 -- places: the call of `expand` seen from the end, and the kind's number seen from that call
-abbrev expanded_of : tie.After-slice-known8 → tie.After-expand
+abbrev expanded_of : tie.After-slice_known-8-1 → tie.After-expand
 expanded_of c =
     let ops_back_lem = c.before.before.before in
     let bytes_known = ops_back_lem.before.before.before in
     bytes_known.before.before
 
-abbrev kind_of_place : tie.After-expand → tie.After-kind-number
+abbrev kind_of_place : tie.After-expand → tie.After-kind_number
 kind_of_place c =
     let lent_second = c.before.before.before in
     lent_second.before.before
@@ -26,7 +26,7 @@ returns c =
     let kind = kind_of_place expanded in
     let known = kind.before.before.before in
     let a = known.before.before.args in
-    let l = lent a.bytes.now a.stamps.now a.ops.now a.accesses.now in
+    let l = lent a.bytes-1.now a.stamps-1.now a.ops-1.now a.accesses-1.now in
     let try : ℕ → Try = λ k. try_of (record { kind = k; stamp = a.timestamp; src = a.src; dst = a.dst; count = a.count }) l in
     let same = kind.kind_number.ensures in
     let done = expanded.expand.ensures in

@@ -8,31 +8,31 @@ use Rattle.exports.proofs.route_accesses.Statement.{statement}
 use Rattle.exports.proofs.route_accesses.Tie as tie
 
 -- routing's call, seen from its numbers
-abbrev to_routed : tie.After-numbers → tie.After-route-accesses
+abbrev to_routed : tie.After-numbers-routed → tie.After-route_accesses
 to_routed c =
     let at_slice_known5 = c.before.before.before in
     let at_register = at_slice_known5.before.before.before in
     at_register.before
 
-returns : tie.Need-returns
+returns : tie.Need-returns-then-routed-ne0
 returns c =
     let told = c.before.before.before in
     let done = (to_routed told).route_accesses.ensures in
-    let same = told.numbers.ensures ∙ done.answer in
-    let other = c.before.if1.true in
+    let same = told.numbers-routed.ensures ∙ done.answer in
+    let other = c.before.if-routed-ne0.true in
     record {
       routed = record { answer = refl; lists = done.lists };
       answer = c.refuse.ensures ∙ refused_routed _ _ same _ other;
       counted = refused_counts _ _ same _ other;
     }
 
-returns_2 : tie.Need-returns-2
+returns_2 : tie.Need-returns-then-routed-ne0
 returns_2 c =
     let at_if1 = c.before.before.before in
     let told = at_if1.before.before in
     let done = (to_routed told).route_accesses.ensures in
-    let same = told.numbers.ensures ∙ done.answer in
-    let none = at_if1.if1.false in
+    let same = told.numbers-routed.ensures ∙ done.answer in
+    let none = at_if1.if-routed-ne0.false in
     record {
       routed = record { answer = refl; lists = done.lists };
       answer = c.accept.ensures ∙ ap accepted c.before.record_count.ensures ∙ accepted_routed _ _ same _ none;

@@ -11,6 +11,6 @@ field_sub_spec =
     tie.close
     (tie.spec
     (λ c κs. search rules)
-    (λ c. ap field_numbers (refused_answer _ _ _ c.before.first_none.ensures (omega arith)))
-    (λ c κs. elements _ _ (omega (arith, c.before.first_none.ensures)))
-    (λ c. ap field_numbers (element_answer _ _ _ c.before.before.first_none.ensures (omega arith) c.sub.ensures.0)))
+    (λ c. ap field_numbers (refused_answer _ _ _ c.before.first_none-place.ensures (omega arith)))
+    (λ c κs. elements _ _ (omega (arith, c.before.first_none-place.ensures)))
+    (λ c. ap field_numbers (element_answer _ _ _ c.before.before.first_none-place.ensures (omega arith) c.sub.ensures.0)))

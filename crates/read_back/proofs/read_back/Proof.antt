@@ -14,13 +14,13 @@ use Rattle.read_back.proofs.read_back.Tie as tie
 
 -- Places: the chain is checked; the list passes; both buffers hold the result; it is written
 
-abbrev check_of : tie.After-enum-told → tie.After-check
+abbrev check_of : tie.In-Passed → tie.After-check
 check_of c = c.before.before
 
-abbrev room_of : tie.After-write-arg2 → tie.Else1
+abbrev room_of : tie.After-write-arg-in-Passed-1 → tie.Else-not-holds
 room_of c = c.before.before
 
-abbrev write_of : tie.After-slice-known4 → tie.After-write
+abbrev write_of : tie.After-slice_known-in-Passed-2-1 → tie.After-write-found
 write_of c =
     let back = c.before.before in
     back.before.before
@@ -30,11 +30,11 @@ rows_of c =
     let lent = c.before in
     lent.before.before.before.args.rows.now
 
-fit : (c : tie.After-enum-told) → RowsFit (rows_of (check_of c))
-fit c = passed_fit _ _ (ap (λ (x : ChainAnswer). (chain_numbers x).number) (sym (check_of c).check.ensures ∙ c.enum_told.given.1))
+fit : (c : tie.In-Passed) → RowsFit (rows_of (check_of c))
+fit c = passed_fit _ _ (ap (λ (x : ChainAnswer). (chain_numbers x).number) (sym (check_of c).check.ensures ∙ c.enum_told-1.given.1))
 
-holds : (c : tie.Else1) → c.before.holds.result ≡ true
-holds c = not-false _ c.if1.false
+holds : (c : tie.Else-not-holds) → c.before.holds.result ≡ true
+holds c = not-false _ c.if-not-holds.false
 
 pub read_back_spec : {M : Type 1} → statement M
 read_back_spec =
@@ -44,14 +44,14 @@ read_back_spec =
     (λ c κs. fit c)
     (λ c.
     let told = c.before.before in
-    short _ _ _ _ _ (sym (check_of told).check.ensures ∙ told.enum_told.given.1) (sym c.before.holds.ensures ∙ not-true _ c.if1.true))
+    short _ _ _ _ _ (sym (check_of told).check.ensures ∙ told.enum_told-1.given.1) (sym c.before.holds.ensures ∙ not-true _ c.if-not-holds.true))
     (λ c κs. let room = room_of c in (fit room.before.before, sym room.before.holds.ensures ∙ holds room))
     (λ c. search rules) (λ c. search rules) (λ c. search rules)
     (λ c.
     let write = write_of c in
     let room = room_of write.before in
     let told = room.before.before in
-    let done = write.write.ensures in
-    read _ _ _ _ _ (sym (check_of told).check.ensures ∙ told.enum_told.given.1) (sym room.before.holds.ensures ∙ holds room) _
+    let done = write.write-found.ensures in
+    read _ _ _ _ _ (sym (check_of told).check.ensures ∙ told.enum_told-1.given.1) (sym room.before.holds.ensures ∙ holds room) _
     done.0 _ _ done.1.0 done.1.1)
-    (λ c. let why = c.before in refused _ _ _ _ _ (sym why.before.before.check.ensures ∙ why.why.given.1)))
+    (λ c. let why = c.before in refused _ _ _ _ _ (sym why.before.before.check.ensures ∙ why.why-1.given.1)))

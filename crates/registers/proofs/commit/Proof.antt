@@ -4,7 +4,7 @@ use borrow.Author.Rules.{rules}
 use Rattle.registers.proofs.commit.Statement.{statement}
 use Rattle.registers.proofs.commit.Tie as tie
 
-cast_after : tie.Need-overflow-cast-after
+cast_after : tie.Need-overflow_cast-after
 cast_after c =
     let at_register_access2 = c.before.before.before in
     let at_stamp = at_register_access2.before.before.before in
@@ -25,18 +25,18 @@ returns c =
     let at_read_back2 = at_words.before in
     let at_read_back = at_read_back2.before in
     rw (
-      c.wrote3.ensures,
-      c.before.wrote2.ensures,
+      c.wrote-last.ensures,
+      c.before.wrote-after.ensures,
       at_wrote.wrote.ensures,
-      at_four_records.four_records.ensures,
-      at_register_access2.register-access2.ensures,
-      at_words4.words4.ensures,
-      at_words3.words3.ensures,
-      at_register_access.register_access.ensures,
-      at_words2.words2.ensures,
+      at_four_records.four_records-records.ensures,
+      at_register_access2.register_access-x10.ensures,
+      at_words4.words-4.ensures,
+      at_words3.words-3.ensures,
+      at_register_access.register_access-x254.ensures,
+      at_words2.words-2.ensures,
       at_words.words.ensures,
-      at_read_back2.read-back2.ensures,
-      at_read_back.read_back.ensures,
+      at_read_back2.read_back-x12.ensures,
+      at_read_back.read_back-x11.ensures,
     )
 
 pub commit_spec : {M : Type 1} → statement M

@@ -24,15 +24,15 @@ returns c =
     let at_slice_known = at_shared_slice_known3.before.before.before in
     let start = at_slice_known.before in
     let a = start.args in
-    let l = a.records.now in
+    let l = a.records-1.now in
     let x = a.a.now in
     let y = a.b.now in
     let z = a.c.now in
     let u = a.d.now in
-    fourth.put-at4.ensures
-    ∙ ap (λ (t : List ℕ). store t (3 * ACCESS_WIDTH) u) third.put-at3.ensures
+    fourth.put_at-4.ensures
+    ∙ ap (λ (t : List ℕ). store t (3 * ACCESS_WIDTH) u) third.put_at-3.ensures
     ∙ store_behind _ (2 * ACCESS_WIDTH) (3 * ACCESS_WIDTH) z u (omega arith)
-    ∙ ap (λ (t : List ℕ). store t (2 * ACCESS_WIDTH) (z ++ u)) second.put-at2.ensures
+    ∙ ap (λ (t : List ℕ). store t (2 * ACCESS_WIDTH) (z ++ u)) second.put_at-2.ensures
     ∙ store_behind _ ACCESS_WIDTH (2 * ACCESS_WIDTH) y (z ++ u) (omega arith)
     ∙ ap (λ (t : List ℕ). store t ACCESS_WIDTH (y ++ (z ++ u))) first.put_at.ensures
     ∙ store_behind l 0 ACCESS_WIDTH x (y ++ (z ++ u)) (omega arith)

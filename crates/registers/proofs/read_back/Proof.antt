@@ -9,4 +9,4 @@ read_back_spec =
     (tie.spec
     (λ c. search rules) (λ c. search rules) (λ c. search rules) (λ c κs. search rules) (λ c κs. search rules)
     (λ c κs. search rules)
-    (λ c. rw (c.register_access.ensures, c.before.words2.ensures, c.before.before.words.ensures)))
+    (λ c. rw (c.register_access.ensures, c.before.words-2.ensures, c.before.before.words.ensures)))

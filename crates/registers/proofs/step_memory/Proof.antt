@@ -13,13 +13,13 @@ returns c =
     let at_read_back2 = at_read_back3.before in
     let at_read_back = at_read_back2.before in
     rw (
-      c.wrote3.ensures,
-      c.before.wrote2.ensures,
+      c.wrote-after.ensures,
+      c.before.wrote-2.ensures,
       at_wrote.wrote.ensures,
-      at_four_records.four_records.ensures,
-      at_read_back3.read-back3.ensures,
-      at_read_back2.read-back2.ensures,
-      at_read_back.read_back.ensures,
+      at_four_records.four_records-records.ensures,
+      at_read_back3.read_back-x10.ensures,
+      at_read_back2.read_back-x12.ensures,
+      at_read_back.read_back-x11.ensures,
     )
 
 pub step_memory_spec : {M : Type 1} → statement M

@@ -8,31 +8,31 @@ use Rattle.registers.specs.Step.{register_step}
 use Rattle.registers.proofs.step_write.Statement.{statement}
 use Rattle.registers.proofs.step_write.Tie as tie
 
-returns : tie.Need-returns
+returns : tie.Need-returns-then-dst-index
 unfolding register_step
-returns c = rw (ne_eqb _ _ c.before.if1.true) c.refused.ensures
+returns c = rw (ne_eqb _ _ c.before.if-dst-index.true) c.refused.ensures
 
-returns_2 : tie.Need-returns-2
+returns_2 : tie.Need-returns-then-dst-count
 unfolding register_step
 returns_2 c =
     let a = c.before.before.before.args in
-    rw (eq-eqb _ _ c.before.before.if1.false, lt-ltb (2 ^ 32 - 1) (a.dst + a.count) (omega arith)) c.refused2.ensures
+    rw (eq-eqb _ _ c.before.before.if-dst-index.false, lt-ltb (2 ^ 32 - 1) (a.dst + a.count) (omega arith)) c.refused-then-dst-count.ensures
 
 -- Behind the second test the plain sum does not pass the index.
-fits : (c : tie.After-if32) → let a = c.before.before.before.args in a.dst + a.count ≤ 2 ^ 32 - 1
+fits : (c : tie.After-t12-1) → let a = c.before.before.before.args in a.dst + a.count ≤ 2 ^ 32 - 1
 fits c = omega arith
 
-returns_3 : tie.Need-returns-3
+returns_3 : tie.Need-returns-then-state-ne1
 unfolding register_step
 returns_3 c =
     let known = c.before.before in
-    rw (eq-eqb _ _ known.before.before.if1.false, le-ltb _ _ (fits known), ne_eqb _ _ c.before.if3.true) c.refused3.ensures
+    rw (eq-eqb _ _ known.before.before.if-dst-index.false, le-ltb _ _ (fits known), ne_eqb _ _ c.before.if-state-ne1.true) c.refused-then-state-ne1.ensures
 
-returns_4 : tie.Need-returns-4
+returns_4 : tie.Need-returns-then-dst-index
 unfolding register_step
 returns_4 c =
     let known = c.before.before in
-    rw (eq-eqb _ _ known.before.before.if1.false, le-ltb _ _ (fits known), eq-eqb _ _ c.before.if3.false) c.commit.ensures
+    rw (eq-eqb _ _ known.before.before.if-dst-index.false, le-ltb _ _ (fits known), eq-eqb _ _ c.before.if-state-ne1.false) c.commit.ensures
 
 pub step_write_spec : {M : Type 1} → statement M
 step_write_spec =

@@ -8,10 +8,10 @@ use Rattle.replay.proofs.Counted.{counts}
 use Rattle.replay.proofs.load_bytes.Statement.{statement}
 use Rattle.replay.proofs.load_bytes.Tie as tie
 
-abbrev invariant_loop : tie.invariant-loop
+abbrev invariant_loop : tie.invariant-loop-i
 invariant_loop list buffer₀ i₀ buffer i = (i ≤ length list) × (length buffer ≡ length buffer₀) × (i ≤ length buffer)
 
-abbrev decreases_loop : tie.decreases-loop
+abbrev decreases_loop : tie.decreases-loop-i
 decreases_loop list buffer₀ i₀ buffer i = length list - i
 
 pub load_bytes_spec : {M : Type 1} → statement M

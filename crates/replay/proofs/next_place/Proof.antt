@@ -5,10 +5,10 @@ use borrow.Author.Rules.{rules}
 use Rattle.replay.proofs.next_place.Statement.{statement}
 use Rattle.replay.proofs.next_place.Tie as tie
 
-abbrev invariant_loop : tie.invariant-loop
+abbrev invariant_loop : tie.invariant-loop-i
 invariant_loop text at digit i₀ i = (at ≤ i) × (i ≤ length text)
 
-abbrev decreases_loop : tie.decreases-loop
+abbrev decreases_loop : tie.decreases-loop-i
 decreases_loop text at digit i₀ i = length text - i
 
 pub next_place_spec : {M : Type 1} → statement M

@@ -8,10 +8,10 @@ use Rattle.replay.proofs.Counted.{counts}
 use Rattle.replay.proofs.numbers_of.Statement.{statement}
 use Rattle.replay.proofs.numbers_of.Tie as tie
 
-abbrev invariant_loop : tie.invariant-loop
+abbrev invariant_loop : tie.invariant-loop-count
 invariant_loop text out₀ count₀ at₀ out count at = (length out ≡ length out₀) × (count ≤ length out) × (at ≤ length text)
 
-abbrev decreases_loop : tie.decreases-loop
+abbrev decreases_loop : tie.decreases-loop-count
 decreases_loop text out₀ count₀ at₀ out count at = length out - count
 
 pub numbers_of_spec : {M : Type 1} → statement M

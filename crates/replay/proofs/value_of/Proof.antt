@@ -5,10 +5,10 @@ use borrow.Author.Rules.{rules}
 use Rattle.replay.proofs.value_of.Statement.{statement}
 use Rattle.replay.proofs.value_of.Tie as tie
 
-abbrev invariant_loop : tie.invariant-loop
+abbrev invariant_loop : tie.invariant-loop-i
 invariant_loop digits value₀ i₀ value i = i ≤ length digits
 
-abbrev decreases_loop : tie.decreases-loop
+abbrev decreases_loop : tie.decreases-loop-i
 decreases_loop digits value₀ i₀ value i = length digits - i
 
 pub value_of_spec : {M : Type 1} → statement M

@@ -5,10 +5,10 @@ use borrow.Author.Rules.{rules}
 use Rattle.replay_chain.proofs.ask_all.Statement.{statement}
 use Rattle.replay_chain.proofs.ask_all.Tie as tie
 
-abbrev invariant_loop : tie.invariant-loop
+abbrev invariant_loop : tie.invariant-loop-at
 invariant_loop numbers at₀ at = at ≤ length numbers
 
-abbrev decreases_loop : tie.decreases-loop
+abbrev decreases_loop : tie.decreases-loop-at
 decreases_loop numbers at₀ at = length numbers - at
 
 pub ask_all_spec : {M : Type 1} → statement M

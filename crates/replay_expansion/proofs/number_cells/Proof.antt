@@ -7,10 +7,10 @@ use borrow.Author.Rules.{rules}
 use Rattle.replay_expansion.proofs.number_cells.Statement.{statement}
 use Rattle.replay_expansion.proofs.number_cells.Tie as tie
 
-abbrev invariant_loop : tie.invariant-loop
+abbrev invariant_loop : tie.invariant-loop-i
 invariant_loop bytes₀ stamps₀ i₀ bytes stamps i = (length bytes ≡ length bytes₀) × (length stamps ≡ length stamps₀) × (i ≤ length bytes)
 
-abbrev decreases_loop : tie.decreases-loop
+abbrev decreases_loop : tie.decreases-loop-i
 decreases_loop bytes₀ stamps₀ i₀ bytes stamps i = length bytes - i
 
 pub number_cells_spec : {M : Type 1} → statement M

@@ -5,10 +5,10 @@ use borrow.Author.Rules.{rules}
 use Rattle.replay_field.proofs.ask_all.Statement.{statement}
 use Rattle.replay_field.proofs.ask_all.Tie as tie
 
-abbrev invariant_loop : tie.invariant-loop
+abbrev invariant_loop : tie.invariant-loop-i
 invariant_loop numbers i₀ i = i ≤ length numbers / 3
 
-abbrev decreases_loop : tie.decreases-loop
+abbrev decreases_loop : tie.decreases-loop-i
 decreases_loop numbers i₀ i = length numbers / 3 - i
 
 pub ask_all_spec : {M : Type 1} → statement M

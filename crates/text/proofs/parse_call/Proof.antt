@@ -24,127 +24,127 @@ read_number e f g = sym (f ∙ ap number_of e) ∙ g
 
 -- Places: each field seen from the one behind it, and the line
 
-abbrev word_of_place : tie.After-tail → tie.After-word
+abbrev word_of_place : tie.After-tail-from_stamp → tie.In-Known-2
 word_of_place c = c.before.before
 
-abbrev line : tie.After-word → List ℕ
+abbrev line : tie.In-Known-2 → List ℕ
 line c =
     let first = c.before.before.before in
     first.before.before.args.line.now
 
-abbrev to_stamp : tie.After-first → tie.After-tail
+abbrev to_stamp : tie.In-Number-2 → tie.After-tail-from_stamp
 to_stamp c =
     let read = c.before.before in
     read.before.before
 
-abbrev to_src : tie.After-second → tie.After-tail2
+abbrev to_src : tie.In-Number-second-2 → tie.After-tail-from_src
 to_src c =
     let read = c.before.before in
     read.before.before
 
-abbrev to_dst : tie.After-third → tie.After-tail3
+abbrev to_dst : tie.In-Number-third-2 → tie.After-tail-from_dst
 to_dst c =
     let read = c.before.before in
     read.before.before
 
-abbrev stamp_of_place : tie.After-tail2 → tie.After-first
+abbrev stamp_of_place : tie.After-tail-from_src → tie.In-Number-2
 stamp_of_place c = c.before.before
 
-abbrev src_of : tie.After-tail3 → tie.After-second
+abbrev src_of : tie.After-tail-from_dst → tie.In-Number-second-2
 src_of c = c.before.before
 
-abbrev dst_of : tie.After-tail4 → tie.After-third
+abbrev dst_of : tie.After-tail-from_stamp → tie.In-Number-third-2
 dst_of c = c.before.before
 
-abbrev line₂ : tie.After-tail2 → List ℕ
+abbrev line₂ : tie.After-tail-from_src → List ℕ
 line₂ c = line (word_of_place (to_stamp (stamp_of_place c)))
 
-abbrev line₃ : tie.After-tail3 → List ℕ
+abbrev line₃ : tie.After-tail-from_dst → List ℕ
 line₃ c = line₂ (to_src (src_of c))
 
-abbrev line₄ : tie.After-tail4 → List ℕ
+abbrev line₄ : tie.After-tail-from_stamp → List ℕ
 line₄ c = line₃ (to_dst (dst_of c))
 
 -- what stands behind the first tabs
 
-behind₂ : (c : tie.After-tail2) → c.tail2.result.now ≡ after 9 (after 9 (line₂ c))
-behind₂ c = c.tail2.ensures ∙ ap (after 9) (to_stamp (stamp_of_place c)).tail.ensures
+behind₂ : (c : tie.After-tail-from_src) → c.tail-from_src.result.now ≡ after 9 (after 9 (line₂ c))
+behind₂ c = c.tail-from_src.ensures ∙ ap (after 9) (to_stamp (stamp_of_place c)).tail-from_stamp.ensures
 
-behind₃ : (c : tie.After-tail3) → c.tail3.result.now ≡ after 9 (after 9 (after 9 (line₃ c)))
-behind₃ c = c.tail3.ensures ∙ ap (after 9) (behind₂ (to_src (src_of c)))
+behind₃ : (c : tie.After-tail-from_dst) → c.tail-from_dst.result.now ≡ after 9 (after 9 (after 9 (line₃ c)))
+behind₃ c = c.tail-from_dst.ensures ∙ ap (after 9) (behind₂ (to_src (src_of c)))
 
-behind₄ : (c : tie.After-tail4) → c.tail4.result.now ≡ after 9 (after 9 (after 9 (after 9 (line₄ c))))
-behind₄ c = c.tail4.ensures ∙ ap (after 9) (behind₃ (to_dst (dst_of c)))
+behind₄ : (c : tie.After-tail-from_stamp) → c.tail-from_stamp.result.now ≡ after 9 (after 9 (after 9 (after 9 (line₄ c))))
+behind₄ c = c.tail-from_stamp.ensures ∙ ap (after 9) (behind₃ (to_dst (dst_of c)))
 
 -- the fields that were read
 
-kind_at : (c : tie.After-word) → word_of (before 9 (line c)) ≡ Known c.word.given.0.0
+kind_at : (c : tie.In-Known-2) → word_of (before 9 (line c)) ≡ Known c.word-1.given.0.0
 kind_at c =
     let read = c.before.before in
-    read_word read.before.head.ensures read.parse_word.ensures c.word.given.1
+    read_word read.before.head.ensures read.parse_word-word.ensures c.word-1.given.1
 
-stamp_at_lem : (c : tie.After-first) → number_of (before 9 (after 9 (line (word_of_place (to_stamp c))))) ≡ Number c.first.given.0.0
+stamp_at_lem : (c : tie.In-Number-2) → number_of (before 9 (after 9 (line (word_of_place (to_stamp c))))) ≡ Number c.first-1.given.0.0
 stamp_at_lem c =
     let read = c.before.before in
-    read_number (read.before.head2.ensures ∙ ap (before 9) (to_stamp c).tail.ensures) read.parse_number.ensures c.first.given.1
+    read_number (read.before.head-2.ensures ∙ ap (before 9) (to_stamp c).tail-from_stamp.ensures) read.parse_number-first.ensures c.first-1.given.1
 
-src_at : (c : tie.After-second) → number_of (before 9 (after 9 (after 9 (line₂ (to_src c))))) ≡ Number c.second.given.0.0
+src_at : (c : tie.In-Number-second-2) → number_of (before 9 (after 9 (after 9 (line₂ (to_src c))))) ≡ Number c.second-1.given.0.0
 src_at c =
     let read = c.before.before in
-    read_number (read.before.head3.ensures ∙ ap (before 9) (behind₂ (to_src c))) read.parse-number2.ensures c.second.given.1
+    read_number (read.before.head-3.ensures ∙ ap (before 9) (behind₂ (to_src c))) read.parse_number-second.ensures c.second-1.given.1
 
-dst_at : (c : tie.After-third) → number_of (before 9 (after 9 (after 9 (after 9 (line₃ (to_dst c)))))) ≡ Number c.third.given.0.0
+dst_at : (c : tie.In-Number-third-2) → number_of (before 9 (after 9 (after 9 (after 9 (line₃ (to_dst c)))))) ≡ Number c.third-1.given.0.0
 dst_at c =
     let read = c.before.before in
-    read_number (read.before.head4.ensures ∙ ap (before 9) (behind₃ (to_dst c))) read.parse-number3.ensures c.third.given.1
+    read_number (read.before.head-4.ensures ∙ ap (before 9) (behind₃ (to_dst c))) read.parse_number-third.ensures c.third-1.given.1
 
-no_kind : tie.Need-returns
+no_kind : tie.Need-returns-in_default
 no_kind c =
     let read = c.before.before in
-    call_unknown _ (read_word read.before.head.ensures read.parse_word.ensures c.enum_told.given.1)
+    call_unknown _ (read_word read.before.head.ensures read.parse_word-word.ensures c.enum_told-1.given.1)
 
-no_stamp : tie.Need-returns-2
+no_stamp : tie.Need-returns-in_default-first
 no_stamp c =
     let read = c.before.before in
     let cut = read.before.before in
-    let from = cut.tail.ensures in
+    let from = cut.tail-from_stamp.ensures in
     call_no_stamp _ _ (kind_at (word_of_place cut))
-    (read_number (read.before.head2.ensures ∙ ap (before 9) from) read.parse_number.ensures c.enum-told2.given.1)
+    (read_number (read.before.head-2.ensures ∙ ap (before 9) from) read.parse_number-first.ensures c.enum_told-in_default-first-1.given.1)
 
-no_src : tie.Need-returns-3
+no_src : tie.Need-returns-in_default-second
 no_src c =
     let read = c.before.before in
     let cut = read.before.before in
     let stamp = stamp_of_place cut in
     call_no_src _ _ _ (kind_at (word_of_place (to_stamp stamp))) (stamp_at_lem stamp)
-    (read_number (read.before.head3.ensures ∙ ap (before 9) (behind₂ cut)) read.parse-number2.ensures c.enum-told3.given.1)
+    (read_number (read.before.head-3.ensures ∙ ap (before 9) (behind₂ cut)) read.parse_number-second.ensures c.enum_told-in_default-second-1.given.1)
 
-no_dst : tie.Need-returns-4
+no_dst : tie.Need-returns-in_default-third
 no_dst c =
     let read = c.before.before in
     let cut = read.before.before in
     let src = src_of cut in
     let stamp = stamp_of_place (to_src src) in
     call_no_dst _ _ _ _ (kind_at (word_of_place (to_stamp stamp))) (stamp_at_lem stamp) (src_at src)
-    (read_number (read.before.head4.ensures ∙ ap (before 9) (behind₃ cut)) read.parse-number3.ensures c.enum-told4.given.1)
+    (read_number (read.before.head-4.ensures ∙ ap (before 9) (behind₃ cut)) read.parse_number-third.ensures c.enum_told-in_default-third-1.given.1)
 
-no_count : tie.Need-returns-5
+no_count : tie.Need-returns-in_default-fourth
 no_count c =
     let read = c.before.before in
     let dst = dst_of read.before in
     let src = src_of (to_dst dst) in
     let stamp = stamp_of_place (to_src src) in
     call_no_count _ _ _ _ _ (kind_at (word_of_place (to_stamp stamp))) (stamp_at_lem stamp) (src_at src) (dst_at dst)
-    (read_number (behind₄ read.before) read.parse-number4.ensures c.enum-told5.given.1)
+    (read_number (behind₄ read.before) read.parse_number-fourth.ensures c.enum_told-in_default-fourth-1.given.1)
 
-whole : tie.Need-returns-6
+whole : tie.Need-returns-in_default
 whole c =
     let read = c.before.before.before in
     let dst = dst_of read.before in
     let src = src_of (to_dst dst) in
     let stamp = stamp_of_place (to_src src) in
     call_whole _ _ _ _ _ _ (kind_at (word_of_place (to_stamp stamp))) (stamp_at_lem stamp) (src_at src) (dst_at dst)
-    (read_number (behind₄ read.before) read.parse-number4.ensures c.before.fourth.given.1)
+    (read_number (behind₄ read.before) read.parse_number-fourth.ensures c.before.fourth-1.given.1)
 
 pub parse_call_spec : {M : Type 1} → statement M
 parse_call_spec =

@@ -10,18 +10,18 @@ use Rattle.text.proofs.Forms.{gap_whole, gap_other}
 use Rattle.text.proofs.parse_gap.Statement.{statement}
 use Rattle.text.proofs.parse_gap.Tie as tie
 
-whole : tie.Need-returns
+whole : tie.Need-returns-then-is_same
 whole c =
     let test = c.before.before in
     let compared = test.before in
     let word = compared.is_same.ensures ∙ ap (λ (w : List ℕ). same w gap_word) compared.before.before.head.ensures in
-    c.parse_number.ensures ∙ ap number_of c.before.tail.ensures ∙ gap_whole _ (sym word ∙ test.if1.true)
+    c.parse_number.ensures ∙ ap number_of c.before.tail.ensures ∙ gap_whole _ (sym word ∙ test.if-is_same.true)
 
-other : tie.Need-returns-2
+other : tie.Need-returns-then-is_same
 other c =
     let compared = c.before in
     let word = compared.is_same.ensures ∙ ap (λ (w : List ℕ). same w gap_word) compared.before.before.head.ensures in
-    gap_other _ (sym word ∙ c.if1.false)
+    gap_other _ (sym word ∙ c.if-is_same.false)
 
 pub parse_gap_spec : {M : Type 1} → statement M
 parse_gap_spec =

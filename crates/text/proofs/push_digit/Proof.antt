@@ -8,19 +8,19 @@ use Rattle.text.proofs.Numbers.{digit_low, digit_high, digit_past, digit_next}
 use Rattle.text.proofs.push_digit.Statement.{statement}
 use Rattle.text.proofs.push_digit.Tie as tie
 
-digit_taken : tie.Need-returns-5
+digit_taken : tie.Need-returns-then-b-lt48
 digit_taken c =
     let at_if2 = c.before.before.before in
     let a = at_if2.before.before.args in
-    ap (λ (x : ℕ). Number (10 * a.value + (x - 48))) c.before.wide.ensures.0
+    ap (λ (x : ℕ). Number (10 * a.value + (x - 48))) c.before.wide-digit.ensures.0
     ∙ sym (digit_next a.value a.b (omega arith) (omega arith) (omega arith))
 
-large : tie.Need-returns-3
+large : tie.Need-returns-then-value-gt1844674407370955161
 large c =
     let a = c.before.before.before.args in
     sym (digit_past a.value a.b (omega arith))
 
-past : tie.Need-returns-4
+past : tie.Need-returns-then-value-digit
 past c =
     let at_if2 = c.before.before.before in
     let a = at_if2.before.before.args in

@@ -11,8 +11,8 @@ after_term_spec =
     (tie.spec
     (λ c. term_cut _ _ (omega arith))
     (λ c. search rules) (λ c. search rules)
-    (λ c. term_tag _ _ c.if2.true)
+    (λ c. term_tag _ _ c.if-tag-gt1.true)
     (λ c. search rules) (λ c. search rules)
     (λ c. term_cut _ _ (omega arith))
     (λ c. search rules)
-    (λ c. term_whole _ _ c.before.if2.false (omega arith)))
+    (λ c. term_whole _ _ c.before.if-tag-gt1.false (omega arith)))

@@ -4,16 +4,16 @@ use Rattle.add_pair.proofs.Walks.{words_form, words_other, sums_form_lem, other_
 use Rattle.add_pair.proofs.flat.flat_form.Statement.{statement}
 use Rattle.add_pair.proofs.flat.flat_form.Tie as tie
 
-returns : tie.Need-returns
+returns : tie.Need-returns-then-list-eq2
 returns c =
     let tag = c.before.before in
-    words_form _ tag.before.number.ensures tag.if1.true c.before.if2.true
+    words_form _ tag.before.number-tag.ensures tag.if-tag-eq0.true c.before.if-list-eq2.true
 
-returns_3 : tie.Need-returns-3
+returns_3 : tie.Need-returns-then-tag-eq1
 returns_3 c =
     let at_if3 = c.before.before in
     let tag = at_if3.before in
-    sums_form_lem _ tag.before.number.ensures tag.if1.false at_if3.if3.true c.before.after_sum.ensures c.sums_form.ensures
+    sums_form_lem _ tag.before.number-tag.ensures tag.if-tag-eq0.false at_if3.if-tag-eq1.true c.before.after_sum.ensures c.sums_form.ensures
 
 pub flat_form_spec : {M : Type 1} → statement M
 flat_form_spec =
@@ -21,7 +21,7 @@ flat_form_spec =
     (tie.spec
     (λ c κs. search rules) (λ c. search rules)
     returns
-    (λ c. words_other _ c.before.before.number.ensures c.before.if1.true c.if2.false)
+    (λ c. words_other _ c.before.before.number-tag.ensures c.before.if-tag-eq0.true c.if-list-eq2.false)
     (λ c κs. search rules) (λ c κs. search rules)
     returns_3
-    (λ c. other_form _ c.before.before.number.ensures c.before.if1.false c.if3.false))
+    (λ c. other_form _ c.before.before.number-tag.ensures c.before.if-tag-eq0.false c.if-tag-eq1.false))

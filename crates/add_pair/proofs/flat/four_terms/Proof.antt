@@ -9,9 +9,9 @@ returns : tie.Need-returns
 unfolding four_terms
 returns c =
     λ j. record { term = c.before.before.before.term_of.ensures j }
-    ∷ record { term = c.before.before.term-of2.ensures j }
-    ∷ record { term = c.before.term-of3.ensures j }
-    ∷ record { term = c.term-of4.ensures j }
+    ∷ record { term = c.before.before.term_of-2.ensures j }
+    ∷ record { term = c.before.term_of-3.ensures j }
+    ∷ record { term = c.term_of-4.ensures j }
     ∷ []
 
 pub four_terms_spec : {M : Type 1} → statement M

@@ -9,5 +9,5 @@ signed_spec =
     tie.close
     (tie.spec
     (λ c. search rules) (λ c. search rules)
-    (λ c. signed_low _ c.if1.true)
-    (λ c. signed_high _ c.if1.false (search rules)))
+    (λ c. signed_low _ c.if-bits-lt9223372036854775808.true)
+    (λ c. signed_high _ c.if-bits-lt9223372036854775808.false (search rules)))

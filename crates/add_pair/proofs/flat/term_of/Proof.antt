@@ -9,5 +9,5 @@ term_of_spec =
     tie.close
     (tie.spec
     (λ c κs. search rules) (λ c κs. search rules)
-    (λ c. term_there _ _ _ _ c.before.before.if1.true c.before.after_terms.ensures c.term_after.ensures)
-    (λ c. term_none _ _ _ _ c.if1.false))
+    (λ c. term_there _ _ _ _ c.before.before.if-k-n.true c.before.after_terms.ensures c.term_after.ensures)
+    (λ c. term_none _ _ _ _ c.if-k-n.false))

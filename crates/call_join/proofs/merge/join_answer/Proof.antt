@@ -11,27 +11,27 @@ use Rattle.call_join.proofs.merge.join_answer.Statement.{statement}
 use Rattle.call_join.proofs.merge.join_answer.Tie as tie
 
 -- the entry, seen from the two counts
-abbrev start_of : tie.After-record-count2 → tie.Start
+abbrev start_of : tie.After-record_count-m → tie.Start
 start_of c =
     let known = c.before.before in
     known.before.before
 
-returns : tie.Need-returns
+returns : tie.Need-returns-then-limit-n
 returns c =
     let a = (start_of c.before).args in
     over_first a.limit a.first.now a.second.now a.room (omega arith)
 
-returns_2 : tie.Need-returns-2
+returns_2 : tie.Need-returns-then-limit-m
 returns_2 c =
     let a = (start_of c.before.before).args in
     over_second a.limit a.first.now a.second.now a.room (omega arith) (omega arith)
 
 -- where all four places are found
-module _ (c : tie.After-first-below2) where
-  abbrev found : tie.After-first-bad2
+module _ (c : tie.After-first_below-below_second) where
+  abbrev found : tie.After-first_bad-bad_second
   found = c.before.before
 
-  abbrev counted : tie.After-record-count2
+  abbrev counted : tie.After-record_count-m
   counted =
       let allowed = found.before.before in
       allowed.before.before
@@ -48,11 +48,11 @@ module _ (c : tie.After-first-below2) where
   abbrev room : ℕ
   room = (start_of counted).args.room
 
-  count_first : counted.before.record_count.result ≡ call_count first
-  count_first = counted.before.record_count.ensures
+  count_first : counted.before.record_count-n.result ≡ call_count first
+  count_first = counted.before.record_count-n.ensures
 
-  count_second : counted.record-count2.result ≡ call_count second
-  count_second = counted.record-count2.ensures
+  count_second : counted.record_count-m.result ≡ call_count second
+  count_second = counted.record_count-m.ensures
 
   few_first : call_count first ≤ limit
   few_first = omega (arith, count_first)
@@ -60,25 +60,25 @@ module _ (c : tie.After-first-below2) where
   few_second : call_count second ≤ limit
   few_second = omega (arith, count_second)
 
-  bad_1 : found.before.first_bad.result ≡ first_bad_call first
-  bad_1 = found.before.first_bad.ensures
+  bad_1 : found.before.first_bad-bad_first.result ≡ first_bad_call first
+  bad_1 = found.before.first_bad-bad_first.ensures
 
-  bad_2 : found.first-bad2.result ≡ first_bad_call second
-  bad_2 = found.first-bad2.ensures
+  bad_2 : found.first_bad-bad_second.result ≡ first_bad_call second
+  bad_2 = found.first_bad-bad_second.ensures
 
-  below_1 : c.before.first_below.result ≡ first_below first
-  below_1 = c.before.first_below.ensures
+  below_1 : c.before.first_below-below_first.result ≡ first_below first
+  below_1 = c.before.first_below-below_first.ensures
 
-  below_2 : c.first-below2.result ≡ first_below second
-  below_2 = c.first-below2.ensures
+  below_2 : c.first_below-below_second.result ≡ first_below second
+  below_2 = c.first_below-below_second.ensures
 
-returns_3 : tie.Need-returns-3
+returns_3 : tie.Need-returns-then-bad_first-n
 returns_3 c =
     let p = c.before in
     ap BadRecord (bad_1 p)
     ∙ bad_first (limit p) (first p) (second p) (room p) (few_first p) (few_second p) (omega (arith, bad_1 p, count_first p))
 
-returns_4 : tie.Need-returns-4
+returns_4 : tie.Need-returns-then-bad_second-m
 returns_4 c =
     let p = c.before.before in
     ap BadRecord (bad_2 p)
@@ -86,8 +86,8 @@ returns_4 c =
     (omega (arith, bad_2 p, count_second p))
 
 -- where both lists are good
-module _ (c : tie.Else4) where
-  abbrev all : tie.After-first-below2
+module _ (c : tie.Else-bad_second-m) where
+  abbrev all : tie.After-first_below-below_second
   all = c.before.before
 
   good_first : call_count (first all) ≤ first_bad_call (first all)
@@ -96,7 +96,7 @@ module _ (c : tie.Else4) where
   good_second : call_count (second all) ≤ first_bad_call (second all)
   good_second = omega (arith, bad_2 all, count_second all)
 
-returns_5 : tie.Need-returns-5
+returns_5 : tie.Need-returns-then-below_first-n
 returns_5 c =
     let good = c.before in
     let p = all good in
@@ -104,7 +104,7 @@ returns_5 c =
     ∙ below_first (limit p) (first p) (second p) (room p) (few_first p) (few_second p) (good_first good) (good_second good)
     (omega (arith, below_1 p, count_first p))
 
-returns_6 : tie.Need-returns-6
+returns_6 : tie.Need-returns-then-below_second-m
 returns_6 c =
     let good = c.before.before in
     let p = all good in
@@ -113,8 +113,8 @@ returns_6 c =
     (omega (arith, below_1 p, count_first p)) (omega (arith, below_2 p, count_second p))
 
 -- where both are in order
-module _ (c : tie.Else6) where
-  abbrev good_at : tie.Else4
+module _ (c : tie.Else-below_second-m) where
+  abbrev good_at : tie.Else-bad_second-m
   good_at = c.before.before
 
   order_first : call_count (first (all good_at)) ≤ first_below (first (all good_at))
@@ -123,7 +123,7 @@ module _ (c : tie.Else6) where
   order_second : call_count (second (all good_at)) ≤ first_below (second (all good_at))
   order_second = omega (arith, below_2 (all good_at), count_second (all good_at))
 
-returns_7 : tie.Need-returns-7
+returns_7 : tie.Need-returns-then-calls-room
 returns_7 c =
     let good = good_at c.before in
     let p = all good in
@@ -131,7 +131,7 @@ returns_7 c =
     ∙ joined_fits (limit p) (first p) (second p) (room p) (few_first p) (few_second p) (good_first good) (good_second good) (order_first c.before)
     (order_second c.before) (omega (arith, count_first p, count_second p))
 
-returns_8 : tie.Need-returns-8
+returns_8 : tie.Need-returns-then-limit-n
 returns_8 c =
     let good = good_at c.before in
     let p = all good in

@@ -16,7 +16,7 @@ use Rattle.call_join.proofs.Going.{gone_on, goes_first, goes_second, going_start
 use Rattle.call_join.proofs.merge.write_joined.Statement.{statement}
 use Rattle.call_join.proofs.merge.write_joined.Tie as tie
 
-abbrev invariant_loop : tie.invariant-loop
+abbrev invariant_loop : tie.invariant-loop-i
 invariant_loop first second joined₀ n m i₀ j₀ joined i j =
     (length joined ≡ length joined₀)
     × (n ≡ call_count first)
@@ -25,16 +25,16 @@ invariant_loop first second joined₀ n m i₀ j₀ joined i j =
     × (j ≤ m)
     × (gone_on first second i j joined ≡ filled_joined first second joined₀)
 
-abbrev decreases_loop : tie.decreases-loop
+abbrev decreases_loop : tie.decreases-loop-i
 decreases_loop first second joined₀ n m i₀ j₀ joined i j = n + m - (i + j)
 
 -- the entry, seen from the loop
-abbrev start_of : tie.At-loop invariant_loop decreases_loop → tie.Start invariant_loop decreases_loop
+abbrev start_of : tie.At-loop-i invariant_loop decreases_loop → tie.Start invariant_loop decreases_loop
 start_of c =
     let known = c.before.before.before in
     known.before.before.before
 
-module _ (c : tie.At-loop invariant_loop decreases_loop) where
+module _ (c : tie.At-loop-i invariant_loop decreases_loop) where
   abbrev first : List ℕ
   first = (start_of c).args.first.now
 
@@ -42,103 +42,103 @@ module _ (c : tie.At-loop invariant_loop decreases_loop) where
   second = (start_of c).args.second.now
 
 -- a call is left in both lists
-module _ (c : tie.In-loop invariant_loop decreases_loop) where
-  abbrev at : tie.At-loop invariant_loop decreases_loop
+module _ (c : tie.In-loop-i invariant_loop decreases_loop) where
+  abbrev at : tie.At-loop-i invariant_loop decreases_loop
   at = c.before
 
-  left_first : at.loop.i < call_count (first at)
+  left_first : at.loop-i.i < call_count (first at)
   left_first =
-      let both = (and-eq-true_iff (ltb at.loop.i _) (ltb at.loop.j _)).0 c.loop-test.true in
-      omega (arith, ltb-true at.loop.i at.before.before.record_count.result both.0, at.loop.inv.1)
+      let both = (and-eq-true_iff (ltb at.loop-i.i _) (ltb at.loop-i.j _)).0 c.loop-i-test.true in
+      omega (arith, ltb-true at.loop-i.i at.before.before.record_count-n.result both.0, at.loop-i.inv.1)
 
-  left_second : at.loop.j < call_count (second at)
+  left_second : at.loop-i.j < call_count (second at)
   left_second =
-      let both = (and-eq-true_iff (ltb at.loop.i _) (ltb at.loop.j _)).0 c.loop-test.true in
-      omega (arith, ltb-true at.loop.j at.before.record-count2.result both.1, at.loop.inv.2)
+      let both = (and-eq-true_iff (ltb at.loop-i.i _) (ltb at.loop-i.j _)).0 c.loop-i-test.true in
+      omega (arith, ltb-true at.loop-i.j at.before.record_count-m.result both.1, at.loop-i.inv.2)
 
 -- the loop's test, seen from the two stamps
-abbrev test_of : tie.After-whole-stamp2 invariant_loop decreases_loop → tie.In-loop invariant_loop decreases_loop
+abbrev test_of : tie.After-whole_stamp-in-loop-i invariant_loop decreases_loop → tie.In-loop-i invariant_loop decreases_loop
 test_of c = c.before.before
 
-put_call_requires : tie.Need-put-call-requires invariant_loop decreases_loop
+put_call_requires : tie.Need-put_call-requires invariant_loop decreases_loop
 put_call_requires c κs =
     let t = test_of c.before.before in
-    (omega (arith, left_first t), omega (arith, left_first t, left_second t, (at t).loop.inv.0))
+    (omega (arith, left_first t), omega (arith, left_first t, left_second t, (at t).loop-i.inv.0))
 
-put_call_requires_2 : tie.Need-put-call-requires-2 invariant_loop decreases_loop
+put_call_requires_2 : tie.Need-put_call-requires-in-loop-i invariant_loop decreases_loop
 put_call_requires_2 c κs =
     let t = test_of c.before.before in
-    (omega (arith, left_second t), omega (arith, left_first t, left_second t, (at t).loop.inv.0))
+    (omega (arith, left_second t), omega (arith, left_first t, left_second t, (at t).loop-i.inv.0))
 
-loop_again : tie.Need-loop-preserved invariant_loop decreases_loop
+loop_again : tie.Need-loop-i-preserved-then-whole_stamp invariant_loop decreases_loop
 loop_again c =
     let put = c.before.before in
     let compared = put.before.before.before in
     let t = test_of compared in
-    let l = (at t).loop in
+    let l = (at t).loop-i in
     let a = first (at t) in
     let b = second (at t) in (
-      ap length put.put_call.ensures ∙ length_store l.joined _ _ ∙ l.inv.0,
+      ap length put.put_call.ensures ∙ length_store l.joined-1 _ _ ∙ l.inv.0,
       l.inv.1,
       l.inv.2,
       omega (arith, left_first t, l.inv.1),
       l.inv.4,
       ap (gone_on a b (l.i + 1) l.j) put.put_call.ensures
-          ∙ goes_first a b l.i l.j (left_first t) (left_second t) (start_of (at t)).pre.0 (omega arith) l.joined
+          ∙ goes_first a b l.i l.j (left_first t) (left_second t) (start_of (at t)).pre.0 (omega arith) l.joined-1
           ∙ l.inv.5,
     )
 
-loop_again_2 : tie.Need-loop-preserved-2 invariant_loop decreases_loop
+loop_again_2 : tie.Need-loop-i-preserved invariant_loop decreases_loop
 loop_again_2 c =
     let put = c.before.before in
     let compared = put.before.before.before in
     let t = test_of compared in
-    let l = (at t).loop in
+    let l = (at t).loop-i in
     let a = first (at t) in
     let b = second (at t) in (
-      ap length put.put-call2.ensures ∙ length_store l.joined _ _ ∙ l.inv.0,
+      ap length put.put_call-in-loop-i.ensures ∙ length_store l.joined-1 _ _ ∙ l.inv.0,
       l.inv.1,
       l.inv.2,
       l.inv.3,
       omega (arith, left_second t, l.inv.2),
-      ap (gone_on a b l.i (l.j + 1)) put.put-call2.ensures
-          ∙ goes_second a b l.i l.j (left_first t) (left_second t) (start_of (at t)).pre.1 (omega arith) l.joined
+      ap (gone_on a b l.i (l.j + 1)) put.put_call-in-loop-i.ensures
+          ∙ goes_second a b l.i l.j (left_first t) (left_second t) (start_of (at t)).pre.1 (omega arith) l.joined-1
           ∙ l.inv.5,
     )
 
 -- a turn is one call more
-fewer : (c : tie.After-whole-stamp2 invariant_loop decreases_loop) → let l = (at (test_of c)).loop in
+fewer : (c : tie.After-whole_stamp-in-loop-i invariant_loop decreases_loop) → let l = (at (test_of c)).loop-i in
     l.i + l.j < call_count (first (at (test_of c))) + call_count (second (at (test_of c)))
 fewer c = omega (arith, left_first (test_of c), left_second (test_of c))
 
-loop_less : tie.Need-loop-smaller invariant_loop decreases_loop
+loop_less : tie.Need-loop-i-smaller-then-whole_stamp invariant_loop decreases_loop
 loop_less c =
     let put = c.before.before in
     let compared = put.before.before.before in
-    let l = (at (test_of compared)).loop in
+    let l = (at (test_of compared)).loop-i in
     omega (arith, fewer compared, l.inv.1, l.inv.2)
 
-loop_less_2 : tie.Need-loop-smaller-2 invariant_loop decreases_loop
+loop_less_2 : tie.Need-loop-i-smaller invariant_loop decreases_loop
 loop_less_2 c =
     let put = c.before.before in
     let compared = put.before.before.before in
-    let l = (at (test_of compared)).loop in
+    let l = (at (test_of compared)).loop-i in
     omega (arith, fewer compared, l.inv.1, l.inv.2)
 
 -- behind the loop
-put_rest_requires : tie.Need-put-rest-requires invariant_loop decreases_loop
-put_rest_requires c κs = let l = c.before.before.loop in (omega arith, omega (arith, l.invariant.0, l.invariant.1, l.invariant.2))
+put_rest_requires : tie.Need-put_rest-requires invariant_loop decreases_loop
+put_rest_requires c κs = let l = c.before.before.loop-i in (omega arith, omega (arith, l.invariant.0, l.invariant.1, l.invariant.2))
 
 -- the buffer with the rest of the first list in it
-with_first : (c : tie.After-put-rest invariant_loop decreases_loop) → let p = c.before.before.before in
-    length (store p.loop.joined (HANDED_WIDTH * (p.loop.i + p.loop.j)) (drop (HANDED_WIDTH * p.loop.i) (first p)))
-    ≡ length (start_of p).args.joined.now
-with_first c = let p = c.before.before.before in length_store p.loop.joined _ _ ∙ p.loop.invariant.0
+with_first : (c : tie.After-put_rest invariant_loop decreases_loop) → let p = c.before.before.before in
+    length (store p.loop-i.joined-1 (HANDED_WIDTH * (p.loop-i.i + p.loop-i.j)) (drop (HANDED_WIDTH * p.loop-i.i) (first p)))
+    ≡ length (start_of p).args.joined-1.now
+with_first c = let p = c.before.before.before in length_store p.loop-i.joined-1 _ _ ∙ p.loop-i.invariant.0
 
-put_rest_requires_2 : tie.Need-put-rest-requires-2 invariant_loop decreases_loop
+put_rest_requires_2 : tie.Need-put_rest-requires-2 invariant_loop decreases_loop
 put_rest_requires_2 c κs =
     let put = c.before.before.before in
-    let l = put.before.before.before.loop in
+    let l = put.before.before.before.loop-i in
     (omega arith, omega (arith, ap length put.put_rest.ensures, with_first put, l.invariant.1, l.invariant.2))
 
 returns : tie.Need-returns invariant_loop decreases_loop
@@ -148,13 +148,13 @@ returns c =
     let put_first = known.before.before in
     let over = put_first.before.before in
     let p = over.before in
-    let l = p.loop in
+    let l = p.loop-i in
     let a = first p in
     let b = second p in
-    put_second.put-rest2.ensures
+    put_second.put_rest-2.ensures
     ∙ (λ k. store (put_first.put_rest.ensures k) (HANDED_WIDTH * (l.invariant.1 k + l.j)) (drop (HANDED_WIDTH * l.j) b))
-    ∙ going_end a b l.joined (start_of p).requires.0 (start_of p).requires.1 l.i l.j
-    (omega (arith, l.invariant.1)) (omega (arith, l.invariant.2)) (sym (λ k. ltb l.i (l.invariant.1 k) && ltb l.j (l.invariant.2 k)) ∙ over.loop-test.false)
+    ∙ going_end a b l.joined-1 (start_of p).requires.0 (start_of p).requires.1 l.i l.j
+    (omega (arith, l.invariant.1)) (omega (arith, l.invariant.2)) (sym (λ k. ltb l.i (l.invariant.1 k) && ltb l.j (l.invariant.2 k)) ∙ over.loop-i-test.false)
     ∙ l.invariant.5
 
 pub write_joined_spec : {M : Type 1} → statement M
@@ -165,7 +165,7 @@ write_joined_spec =
     decreases_loop
     (λ c κs. search rules)
     (λ c κs. search rules)
-    (λ c. (omega arith, c.before.record_count.ensures, c.record-count2.ensures, omega arith, omega arith, going_start _ _ _))
+    (λ c. (omega arith, c.before.record_count-n.ensures, c.record_count-m.ensures, omega arith, omega arith, going_start _ _ _))
     (λ c κs. omega (arith, left_first c, left_second c))
     (λ c κs. omega (arith, left_first c.before, left_second c.before))
     (λ c. search rules)

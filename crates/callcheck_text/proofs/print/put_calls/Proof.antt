@@ -13,34 +13,34 @@ use Rattle.callcheck_text.proofs.print.put_calls.Tie as tie
 
 -- Places: the lines have run, seen from behind the four slices; what they came to, seen from the call of `put_done`
 
-abbrev to_lines : tie.After-accesses2 → tie.After-run-lines
+abbrev to_lines : tie.After-accesses-2-1 → tie.After-run_lines-ran
 to_lines c =
     let stamps = c.before.before in
     stamps.before.before
 
-abbrev to_ran : tie.After-put-done-arg2 → tie.After-ran
+abbrev to_ran : tie.After-put_done-arg-in-Done-1 → tie.In-Done-2
 to_ran c =
     let told = c.before.before.before in
     told.before
 
-most : (c : tie.After-ran) → c.ran.given.0.0 ≤ ROWS
-most c = rows_most _ _ (to_lines c.before.before).run_lines.ensures.0 c.ran.given.1
+most : (c : tie.In-Done-2) → c.ran-1.given.0.0 ≤ ROWS
+most c = rows_most _ _ (to_lines c.before.before).run_lines-ran.ensures.0 c.ran-1.given.1
 
-all_accepted : tie.Need-returns
+all_accepted : tie.Need-returns-in-Done
 all_accepted c =
     let put = c.before.before in
     let ran = to_ran put.before in
     let line = put.put_done.ensures in
-    let lines = (to_lines ran.before.before).run_lines.ensures in
-    all_written (wrote (line.0.0 ∙ sym (zero-add _)) line.1) (ran_done _ _ _ _ lines.1 _ ran.ran.given.1) (omega arith)
+    let lines = (to_lines ran.before.before).run_lines-ran.ensures in
+    all_written (wrote (line.0.0 ∙ sym (zero-add _)) line.1) (ran_done _ _ _ _ lines.1 _ ran.ran-1.given.1) (omega arith)
 
-line_refused : tie.Need-returns-2
+line_refused : tie.Need-returns-in-Refused
 line_refused c =
     let put = c.before.before in
     let ran = put.before.before.before in
     let line = put.Put-refused.ensures in
-    let lines = (to_lines ran.before.before).run_lines.ensures in
-    all_written (wrote line.0.0 line.1) (ran_refused _ _ _ _ lines.1 _ _ ran.ran2.given.1) (omega arith)
+    let lines = (to_lines ran.before.before).run_lines-ran.ensures in
+    all_written (wrote line.0.0 line.1) (ran_refused _ _ _ _ lines.1 _ _ ran.ran-in-Refused-1.given.1) (omega arith)
 
 pub put_calls_spec : {M : Type 1} → statement M
 put_calls_spec =

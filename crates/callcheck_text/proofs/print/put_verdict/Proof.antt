@@ -6,23 +6,23 @@ use Rattle.callcheck_text.proofs.Printed.{written_at, verdict_passes, verdict_re
 use Rattle.callcheck_text.proofs.print.put_verdict.Statement.{statement}
 use Rattle.callcheck_text.proofs.print.put_verdict.Tie as tie
 
-passes : tie.Need-returns
+passes : tie.Need-returns-then-verdict-eq0
 passes c =
     let at_put_passed = c.before.before in
     let at_if1 = at_put_passed.before.before in
     let line = at_put_passed.put_passed.ensures in
     let at_test = at_if1 in
     let verdict = at_test.before.before.before.args.verdict in
-    written_at (wrote line.0.0 line.1) (verdict_passes verdict at_test.if1.true) (omega arith)
+    written_at (wrote line.0.0 line.1) (verdict_passes verdict at_test.if-verdict-eq0.true) (omega arith)
 
-refuses : tie.Need-returns-2
+refuses : tie.Need-returns-then-verdict-eq0
 refuses c =
     let at_put_refused = c.before.before in
     let at_if1 = at_put_refused.before.before in
     let line = at_put_refused.Put-refused.ensures in
     let at_test = at_if1 in
     let verdict = at_test.before.before.before.args.verdict in
-    written_at (wrote line.0.0 line.1) (verdict_refuses verdict at_test.if1.false) (omega arith)
+    written_at (wrote line.0.0 line.1) (verdict_refuses verdict at_test.if-verdict-eq0.false) (omega arith)
 
 pub put_verdict_spec : {M : Type 1} → statement M
 put_verdict_spec =

@@ -13,26 +13,26 @@ use Rattle.callcheck_text.proofs.print.verdict.Tie as tie
 made_rows : {n a b : Answer} → n ≡ a → a ≡ b → n.value ≡ b.value
 made_rows e f = value_same (e ∙ f)
 
-product_fits : tie.Need-overflow-mul-chain-check
+product_fits : tie.Need-overflow_mul-rows
 product_fits c =
     let at_made = c.before.before in
-    let rows = made_rows c.numbers.ensures at_made.generate_copy_trace.ensures.answer in
+    let rows = made_rows c.numbers-rows.ensures at_made.generate_copy_trace-made.ensures.answer in
     omega (arith, rows, table_fits at_made.before.before.before.args.ops.now TABLE_ROOM)
 
-part_fits : tie.Need-slice-bounds-chain-check-end
+part_fits : tie.Need-slice_bounds-chain_check-end
 part_fits c =
     let at_made = c.before.before.before in
-    let rows = made_rows c.before.numbers.ensures at_made.generate_copy_trace.ensures.answer in
+    let rows = made_rows c.before.numbers-rows.ensures at_made.generate_copy_trace-made.ensures.answer in
     omega (arith, rows, table_fits at_made.before.before.before.args.ops.now TABLE_ROOM)
 
 returns : tie.Need-returns
 returns c =
     let at_table3 = c.before.before.before in
     let at_numbers = at_table3.before in
-    let made = at_numbers.before.before.generate_copy_trace.ensures in
+    let made = at_numbers.before.before.generate_copy_trace-made.ensures in
     c.chain_numbers.ensures
     ∙ c.before.chain_check.ensures
-    ∙ verdict_is _ _ _ _ (made_rows at_numbers.numbers.ensures made.answer) made.written
+    ∙ verdict_is _ _ _ _ (made_rows at_numbers.numbers-rows.ensures made.answer) made.written
 
 pub verdict_spec : {M : Type 1} → statement M
 verdict_spec =

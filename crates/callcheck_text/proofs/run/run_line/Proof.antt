@@ -5,38 +5,38 @@ use Rattle.callcheck_text.proofs.OneLine.{step_other, step_stop, step_rows_lem}
 use Rattle.callcheck_text.proofs.run.run_line.Statement.{statement}
 use Rattle.callcheck_text.proofs.run.run_line.Tie as tie
 
-other_form : tie.Need-returns
-other_form c = step_other _ _ _ (sym c.before.before.parse-Call.ensures ∙ c.enum_told.given.1)
+other_form : tie.Need-returns-in_default
+other_form c = step_other _ _ _ (sym c.before.before.parse-Call.ensures ∙ c.enum_told-1.given.1)
 
 -- Places: the call seen from behind the four slices, and the line seen from the call
 
-abbrev to_call : tie.After-slice-known8 → tie.After-collect-copy-ops
+abbrev to_call : tie.After-slice_known-8-1 → tie.After-collect_copy_ops-answer
 to_call c =
     let ops = c.before.before.before in
     let bytes = ops.before.before.before in
     bytes.before.before
 
-abbrev to_line : tie.After-collect-copy-ops → tie.After-line
+abbrev to_line : tie.After-collect_copy_ops-answer → tie.In-Call-2
 to_line c =
     let second = c.before.before.before in
     second.before.before.before
 
-refused_call : tie.Need-returns-2
+refused_call : tie.Need-returns-in_default-answer
 refused_call c =
     let call = to_call c.before.before in
     let line = to_line call in
-    let told = sym line.before.before.parse-Call.ensures ∙ line.line.given.1 in
-    let done = call.collect_copy_ops in
+    let told = sym line.before.before.parse-Call.ensures ∙ line.line-1.given.1 in
+    let done = call.collect_copy_ops-answer in
     step_stop _ _ _ _ _ _ _ _ _ told done.result done.ensures _ c.numbers.ensures c.before.match2.keys2
 
-accepted_call : tie.Need-returns-3
+accepted_call : tie.Need-returns-in_default
 accepted_call c =
     let answer = c.before in
     let call = to_call answer.before.before in
     let line = to_line call in
-    let told = sym line.before.before.parse-Call.ensures ∙ line.line.given.1 in
-    let done = call.collect_copy_ops in
-    step_rows_lem _ _ _ _ _ _ _ _ _ told done.result done.ensures _ _ answer.answer.given.1
+    let told = sym line.before.before.parse-Call.ensures ∙ line.line-1.given.1 in
+    let done = call.collect_copy_ops-answer in
+    step_rows_lem _ _ _ _ _ _ _ _ _ told done.result done.ensures _ _ answer.answer-1.given.1
 
 pub run_line_spec : {M : Type 1} → statement M
 run_line_spec =

@@ -14,14 +14,14 @@ use Rattle.calls_in_turn.specs.Inner.{added_by}
 use Rattle.calls_in_turn.proofs.ahead.records_of.Statement.{statement}
 use Rattle.calls_in_turn.proofs.ahead.records_of.Tie as tie
 
-good_at : (c : tie.Else1) → good_call c.before.before.before.args.call.now ≡ true
-good_at c = sym c.before.good_call.ensures ∙ not-false _ c.if1.false
+good_at : (c : tie.Else-not-good_call) → good_call c.before.before.before.args.call.now ≡ true
+good_at c = sym c.before.good_call.ensures ∙ not-false _ c.if-not-good_call.false
 
-returns : tie.Need-returns
+returns : tie.Need-returns-then-not-good_call
 unfolding added_by
-returns c = (rw (sym c.before.good_call.ensures ∙ not-true _ c.if1.true), omega arith)
+returns c = (rw (sym c.before.good_call.ensures ∙ not-true _ c.if-not-good_call.true), omega arith)
 
-returns_2 : tie.Need-returns-2
+returns_2 : tie.Need-returns-then-not-good_call
 unfolding added_by
 returns_2 c =
     let called = c.before.before in

@@ -28,13 +28,13 @@ abbrev Top : Type 0
 Top = tie.At-rows invariant_rows decreases_rows
 
 abbrev Row : Type 0
-Row = tie.After-row2 invariant_rows decreases_rows
+Row = tie.After-row-then-k-n-1 invariant_rows decreases_rows
 
 abbrev Met : Type 0
-Met = tie.Joined3 invariant_rows decreases_rows
+Met = tie.Joined-k-n invariant_rows decreases_rows
 
 abbrev Link : Type 0
-Link = tie.After-link-check invariant_rows decreases_rows
+Link = tie.After-link_check invariant_rows decreases_rows
 
 abbrev entry_of : Top → tie.Start invariant_rows decreases_rows
 entry_of c =
@@ -74,7 +74,7 @@ wide c = ap length (is c) ∙ row_length (rows_of (row_top c)) (row_top c).rows.
 
 -- What is asked about
 
-asked : (c : Met) → let top = met_top c in Asked (gap_of top) (rows_of top) top.rows.k c.if3.row.now
+asked : (c : Met) → let top = met_top c in Asked (gap_of top) (rows_of top) top.rows.k c.if-k-n.row-1.now
 asked c =
     ⊎_elim
     (λ w.
@@ -82,7 +82,7 @@ asked c =
     let same = ap (λ x. x.now) w.5 in
     a_row (omega (arith, w.0.taken)) (same ∙ is row) (ap (row_fault _) same ∙ sym w.2.ensures ∙ w.4.given.1))
     (λ w. the_end (omega (arith, w.0.left)) (ap (λ (l : List ℕ). length l) (ap (λ x. x.now) w.1) ∙ omega arith))
-    c.if3.branch
+    c.if-k-n.branch
 
 pub check_spec : {M : Type 1} → statement M
 check_spec =
@@ -105,18 +105,18 @@ check_spec =
     (λ c.
     let link = c.before.before.before in
     from_end _ _ _ _ (walk (met_top link.before)) _ (asked link.before) (omega arith)
-    (sym link.link_check.ensures ∙ c.before.enum-told2.given.1))
+    (sym link.link_check.ensures ∙ c.before.enum_told-in_default-link_check-1.given.1))
     (λ c. search rules) (λ c. search rules)
     (λ c.
     let link = c.before.before.before in
     walk_on _ _ _ _ (walk (met_top link.before)) _ (omega arith) (asked link.before) (omega arith)
-    (sym link.link_check.ensures ∙ c.before.enum-told2.given.1))
+    (sym link.link_check.ensures ∙ c.before.enum_told-in_default-link_check-1.given.1))
     (λ c.
     let told = c.before in
     let found = told.before.before in
     let row = found.before in
-    from_row _ _ _ _ (walk (row_top row)) (omega arith) _ (is row) _ (sym found.row_fault.ensures ∙ told.why.given.1))
+    from_row _ _ _ _ (walk (row_top row)) (omega arith) _ (is row) _ (sym found.row_fault.ensures ∙ told.why-1.given.1))
     (λ c.
     let told = c.before in
     let link = told.before.before in
-    from_link _ _ _ _ (walk (met_top link.before)) _ (asked link.before) _ (sym link.link_check.ensures ∙ told.why2.given.1)))
+    from_link _ _ _ _ (walk (met_top link.before)) _ (asked link.before) _ (sym link.link_check.ensures ∙ told.why-in-Unlinked-1.given.1)))

@@ -21,5 +21,5 @@ goes_on_spec =
     let at_stamp = at_write.before.before.before in
     let at_first = at_stamp.before.before in
     let a = at_first.before.before.args in
-    rw (c.moved3.ensures, c.before.moved2.ensures, at_src.moved.ensures, at_stamp.same_stamp.ensures)
+    rw (c.moved-3.ensures, c.before.moved-2.ensures, at_src.moved.ensures, at_stamp.same_stamp.ensures)
     (goes_on_same a.row.now a.previous.now)))

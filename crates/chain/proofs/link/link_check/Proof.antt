@@ -7,11 +7,11 @@ use Rattle.chain.proofs.Links.{row_stood, following_none, following_row, row_lin
 use Rattle.chain.proofs.link.link_check.Statement.{statement}
 use Rattle.chain.proofs.link.link_check.Tie as tie
 
-abbrev entry_of : tie.After-shared-slice-known2 → tie.Start
+abbrev entry_of : tie.After-shared_slice_known-2-1 → tie.Start
 entry_of c = c.before.before
 
 -- what stands before
-abbrev standing_of : tie.After-shared-slice-known2 → Before
+abbrev standing_of : tie.After-shared_slice_known-2-1 → Before
 standing_of c = standing (entry_of c).args.previous.now
 
 pub link_check_spec : {M : Type 1} → statement M
@@ -20,11 +20,11 @@ link_check_spec =
     (tie.spec
     (λ c κs. (entry_of c.before).requires.0)
     (λ c. let end = c.before in
-    sym (ap (link_fault _) (following_none _ end.before.if1.true)
-    ∙ end_refused (standing_of end.before.before) (sym end.unended.ensures ∙ c.if2.true)))
+    sym (ap (link_fault _) (following_none _ end.before.if-row-eq0.true)
+    ∙ end_refused (standing_of end.before.before) (sym end.unended.ensures ∙ c.if-unended.true)))
     (λ c. let end = c.before in
-    sym (ap (link_fault _) (following_none _ end.before.if1.true)
-    ∙ end_linked (standing_of end.before.before) (sym end.unended.ensures ∙ c.if2.false)))
+    sym (ap (link_fault _) (following_none _ end.before.if-row-eq0.true)
+    ∙ end_linked (standing_of end.before.before) (sym end.unended.ensures ∙ c.if-unended.false)))
     (λ c κs. let pre = (entry_of c.before).requires in (row_stood _ pre.1 (omega arith), pre.0))
-    (λ c. sym (ap (link_fault _) (following_row _ (omega arith)) ∙ row_linked _ _ (sym c.before.linked.ensures ∙ c.if3.true)))
-    (λ c. sym (ap (link_fault _) (following_row _ (omega arith)) ∙ row_refused _ _ (sym c.before.linked.ensures ∙ c.if3.false))))
+    (λ c. sym (ap (link_fault _) (following_row _ (omega arith)) ∙ row_linked _ _ (sym c.before.linked.ensures ∙ c.if-linked.true)))
+    (λ c. sym (ap (link_fault _) (following_row _ (omega arith)) ∙ row_refused _ _ (sym c.before.linked.ensures ∙ c.if-linked.false))))

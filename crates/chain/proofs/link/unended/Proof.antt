@@ -9,7 +9,7 @@ pub unended_spec : {M : Type 1} → statement M
 unended_spec =
     tie.close
     (tie.spec
-    (λ c. rw (standing_none _ c.if1.true) refl)
+    (λ c. rw (standing_none _ c.if-previous-eq0.true) refl)
     (λ c. omega (arith, (row_stood _ c.before.before.requires (omega arith)).0))
     (λ c. omega (arith, (row_stood _ c.before.before.before.requires (omega arith)).0))
     (λ c. sym (is_unended_lem _ (omega arith))))

@@ -12,27 +12,27 @@ use Rattle.classify.proofs.route.classify.Statement.{statement}
 use Rattle.classify.proofs.route.classify.Tie as tie
 
 -- the entry, seen from the first test, and what the test says where it is met
-abbrev start_of : tie.Then1 → tie.Start
+abbrev start_of : tie.Then-is_register_op → tie.Start
 start_of c = c.before.before.before
 
-register_at_place : (c : tie.Then1) → is_register_op (start_of c).args.op.now ≡ true
-register_at_place c = sym c.before.is_register_op.ensures ∙ c.if1.true
+register_at_place : (c : tie.Then-is_register_op) → is_register_op (start_of c).args.op.now ≡ true
+register_at_place c = sym c.before.is_register_op.ensures ∙ c.if-is_register_op.true
 
-returns : tie.Need-returns
+returns : tie.Need-returns-then-is_register_op
 unfolding classify
-returns c = let met = c.before.before.before in rw (register_at_place met) (ap Register c.delta_less_one.ensures)
+returns c = let met = c.before.before.before in rw (register_at_place met) (ap Register c.delta_less_one-less_one.ensures)
 
-returns_2 : tie.Need-returns-2
+returns_2 : tie.Need-returns-then-is_aligned_op
 unfolding classify
 returns_2 c =
     let missed = c.before.before in
-    simp (sym missed.before.is_register_op.ensures ∙ missed.if1.false, sym c.before.is_aligned_op.ensures ∙ c.if2.true)
+    simp (sym missed.before.is_register_op.ensures ∙ missed.if-is_register_op.false, sym c.before.is_aligned_op.ensures ∙ c.if-is_aligned_op.true)
 
-returns_3 : tie.Need-returns-3
+returns_3 : tie.Need-returns-then-is_register_op
 unfolding classify
 returns_3 c =
     let missed = c.before.before in
-    simp (sym missed.before.is_register_op.ensures ∙ missed.if1.false, sym c.before.is_aligned_op.ensures ∙ c.if2.false)
+    simp (sym missed.before.is_register_op.ensures ∙ missed.if-is_register_op.false, sym c.before.is_aligned_op.ensures ∙ c.if-is_aligned_op.false)
 
 pub classify_spec : {M : Type 1} → statement M
 classify_spec =

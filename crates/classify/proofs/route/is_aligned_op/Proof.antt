@@ -5,7 +5,7 @@ use Rattle.classify.specs.Classify.{is_aligned_op}
 use Rattle.classify.proofs.route.is_aligned_op.Statement.{statement}
 use Rattle.classify.proofs.route.is_aligned_op.Tie as tie
 
-stamps_agree_requires : tie.Need-stamps-agree-requires
+stamps_agree_requires : tie.Need-stamps_agree-requires
 stamps_agree_requires c κs =
     let at_width = c.before in
     let start = at_width.before.before.before in
@@ -13,7 +13,7 @@ stamps_agree_requires c κs =
 
 returns : tie.Need-returns
 unfolding is_aligned_op
-returns c = rw (c.stamps_agree.ensures, c.before.past_multiple.ensures)
+returns c = rw (c.stamps_agree.ensures, c.before.past_multiple-past.ensures)
 
 pub is_aligned_op_spec : {M : Type 1} → statement M
 is_aligned_op_spec =

@@ -14,7 +14,7 @@ carry_spec =
     tie.close
     (tie.spec
     (λ c κs. search rules)
-    (λ c. (sym (ap (λ (x : ℕ). mul_p x inv32) (sym c.before.sub.ensures.0 ∙ c.if1.true)), search rules))
-    (λ c. (sym (ap (λ (x : ℕ). mul_p x inv32) (sym c.before.before.sub.ensures.0 ∙ c.if2.true)), search rules))
+    (λ c. (sym (ap (λ (x : ℕ). mul_p x inv32) (sym c.before.sub-left.ensures.0 ∙ c.if-left-eq0.true)), search rules))
+    (λ c. (sym (ap (λ (x : ℕ). mul_p x inv32) (sym c.before.before.sub-left.ensures.0 ∙ c.if-left-eq4294967296.true)), search rules))
     (λ c κs. search rules)
-    (λ c. (rw (c.mul.ensures.0, c.before.before.before.sub.ensures.0), search rules)))
+    (λ c. (rw (c.mul.ensures.0, c.before.before.before.sub-left.ensures.0), search rules)))

@@ -10,4 +10,4 @@ carry_high_spec =
     tie.close
     (tie.spec
     (λ c κs. search rules) (λ c κs. search rules) (λ c κs. search rules)
-    (λ c. (rw (c.carry.ensures.0, c.before.add2.ensures.0, c.before.before.add.ensures.0), search rules)))
+    (λ c. (rw (c.carry.ensures.0, c.before.add-2.ensures.0, c.before.before.add.ensures.0), search rules)))

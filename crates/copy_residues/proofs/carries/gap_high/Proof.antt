@@ -11,4 +11,4 @@ gap_high_spec =
     (tie.spec
     (λ c κs. search rules) (λ c κs. search rules) (λ c κs. search rules) (λ c κs. search rules)
     (λ c. let at_gap_low = c.before.before in
-    (rw (c.carry_high.ensures.0, c.before.cell2.ensures.0, at_gap_low.gap_low.ensures.0, at_gap_low.before.cell.ensures.0), search rules)))
+    (rw (c.carry_high.ensures.0, c.before.cell-2.ensures.0, at_gap_low.gap_low.ensures.0, at_gap_low.before.cell.ensures.0), search rules)))

@@ -10,4 +10,4 @@ gap_low_spec =
     tie.close
     (tie.spec
     (λ c κs. search rules) (λ c κs. search rules) (λ c κs. search rules)
-    (λ c. (rw (c.carry_low.ensures.0, c.before.cell2.ensures.0, c.before.before.cell.ensures.0), search rules)))
+    (λ c. (rw (c.carry_low.ensures.0, c.before.cell-2.ensures.0, c.before.before.cell.ensures.0), search rules)))

@@ -12,11 +12,11 @@ plain : (low high : ℕ) → low < 65536 → high < 65536 → low + 65536 * high
 unfolding add_p mul_p
 plain low high h k = omega arith
 
-returns : tie.Need-returns
+returns : tie.Need-returns-then-high-lt65536
 unfolding halves_word
 returns c =
     let at_cell2 = c.before.before in (
-      plain _ _ c.before.if1.true c.if2.true ∙ rw (at_cell2.cell2.ensures.0, at_cell2.before.cell.ensures.0),
+      plain _ _ c.before.if-low-lt65536.true c.if-high-lt65536.true ∙ rw (at_cell2.cell-high.ensures.0, at_cell2.before.cell-low.ensures.0),
       omega arith,
     )
 
@@ -29,4 +29,4 @@ halves_word_spec =
     returns
     (λ c κs. search rules) (λ c κs. search rules)
     (λ c. let at_cell2 = c.before.before.before in
-    (rw (c.add.ensures.0, c.before.mul.ensures.0, at_cell2.cell2.ensures.0, at_cell2.before.cell.ensures.0), search rules)))
+    (rw (c.add.ensures.0, c.before.mul.ensures.0, at_cell2.cell-high.ensures.0, at_cell2.before.cell-low.ensures.0), search rules)))

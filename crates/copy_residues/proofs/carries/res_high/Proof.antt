@@ -13,7 +13,7 @@ res_high_spec =
     (λ c κs. search rules)
     (λ c. let at_res_low = c.before.before in
     let at_cell = at_res_low.before.before in (
-      rw (c.carry_high.ensures.0, c.before.halves_word.ensures.0, at_res_low.res_low.ensures.0, at_res_low.before.cell2.ensures.0)
+      rw (c.carry_high.ensures.0, c.before.halves_word.ensures.0, at_res_low.res_low.ensures.0, at_res_low.before.cell-2.ensures.0)
           (rw at_cell.cell.ensures.0),
       search rules,
     )))

@@ -11,4 +11,4 @@ res_low_spec =
     (tie.spec
     (λ c κs. search rules) (λ c κs. search rules) (λ c κs. search rules) (λ c κs. search rules)
     (λ c. let at_cell2 = c.before.before in
-    (rw (c.carry_low.ensures.0, c.before.halves_word.ensures.0, at_cell2.cell2.ensures.0, at_cell2.before.cell.ensures.0), search rules)))
+    (rw (c.carry_low.ensures.0, c.before.halves_word.ensures.0, at_cell2.cell-2.ensures.0, at_cell2.before.cell.ensures.0), search rules)))

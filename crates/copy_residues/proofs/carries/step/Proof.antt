@@ -11,11 +11,11 @@ use Rattle.copy_residues.proofs.carries.step.Tie as tie
 width : ℕ → ℕ
 width s = add_p 8 (mul_p (p - 7) s)
 
-returns_3 : tie.Need-returns-3
+returns_3 : tie.Need-returns-then-single-eq0
 unfolding step
 returns_3 c =
     let at_mul = c.before in
-    (rw (c.add.ensures.0, at_mul.mul.ensures.0, at_mul.before.before.before.cell.ensures.0), search rules)
+    (rw (c.add.ensures.0, at_mul.mul.ensures.0, at_mul.before.before.before.cell-single.ensures.0), search rules)
 
 pub step_spec : {M : Type 1} → statement M
 unfolding step add_p mul_p width
@@ -23,7 +23,7 @@ step_spec =
     tie.close
     (tie.spec
     (λ c κs. search rules)
-    (λ c. (sym (ap width (sym c.before.cell.ensures.0 ∙ c.if1.true)), search rules))
-    (λ c. (sym (ap width (sym c.before.before.cell.ensures.0 ∙ c.if2.true)), search rules))
+    (λ c. (sym (ap width (sym c.before.cell-single.ensures.0 ∙ c.if-single-eq0.true)), search rules))
+    (λ c. (sym (ap width (sym c.before.before.cell-single.ensures.0 ∙ c.if-single-eq1.true)), search rules))
     (λ c. search rules) (λ c κs. search rules) (λ c κs. search rules)
     returns_3)

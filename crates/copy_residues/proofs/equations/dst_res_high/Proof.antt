@@ -11,8 +11,8 @@ dst_res_high_spec =
     tie.close
     (tie.spec
     (λ c κs. search rules)
-    (λ c. shut_gate _ c.before.cell.ensures.0 c.if1.true)
+    (λ c. shut_gate _ c.before.cell-write.ensures.0 c.if-write-eq0.true)
     (λ c κs. search rules) (λ c κs. search rules) (λ c κs. search rules)
     (λ c. let at_res_high = c.before.before in
     let at_cell = at_res_high.before.before in
-    rw (c.mul.ensures.0, c.before.is_bit.ensures.0, at_res_high.res_high.ensures.0, at_cell.cell.ensures.0)))
+    rw (c.mul.ensures.0, c.before.is_bit.ensures.0, at_res_high.res_high.ensures.0, at_cell.cell-write.ensures.0)))

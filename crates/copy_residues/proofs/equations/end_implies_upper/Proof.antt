@@ -13,5 +13,5 @@ end_implies_upper_spec =
     (λ c. let at_times = c.before.before in
     let at_cell = at_times.before.before in
     let start = at_cell.before.before in
-    rw (c.times2.ensures.0, c.before.cell2.ensures.0, at_times.times.ensures.0, at_times.before.sub.ensures.0)
+    rw (c.times-2.ensures.0, c.before.cell-2.ensures.0, at_times.times.ensures.0, at_times.before.sub.ensures.0)
     (rw (at_cell.cell.ensures.0, start.requires.1.0))))

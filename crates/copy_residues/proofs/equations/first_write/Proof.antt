@@ -12,5 +12,5 @@ first_write_spec =
     (λ c κs. search rules) (λ c κs. search rules) (λ c κs. search rules) (λ c κs. search rules) (λ c κs. search rules)
     (λ c. let at_cell3 = c.before.before in
     let at_cell = at_cell3.before.before in
-    rw (c.sub.ensures.0, c.before.times.ensures.0, at_cell3.cell3.ensures.0, at_cell3.before.cell2.ensures.0)
+    rw (c.sub.ensures.0, c.before.times.ensures.0, at_cell3.cell-3.ensures.0, at_cell3.before.cell-2.ensures.0)
     (rw at_cell.cell.ensures.0)))

@@ -11,7 +11,7 @@ gap_no_wrap_spec =
     tie.close
     (tie.spec
     (λ c κs. search rules)
-    (λ c. shut_gate _ c.before.cell.ensures.0 c.if1.true)
+    (λ c. shut_gate _ c.before.cell-set.ensures.0 c.if-set-eq0.true)
     (λ c κs. search rules) (λ c κs. search rules)
     (λ c. let at_cell = c.before.before.before in
-    rw (c.mul.ensures.0, c.before.gap_high.ensures.0, at_cell.cell.ensures.0)))
+    rw (c.mul.ensures.0, c.before.gap_high.ensures.0, at_cell.cell-set.ensures.0)))

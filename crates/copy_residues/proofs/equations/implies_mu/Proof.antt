@@ -14,5 +14,5 @@ implies_mu_spec =
     (λ c κs. search rules)
     (λ c. let at_cell3 = c.before.before in
     let at_sub = at_cell3.before.before in
-    rw (c.times.ensures.0, c.before.add.ensures.0, at_cell3.cell3.ensures.0, at_cell3.before.cell2.ensures.0)
+    rw (c.times.ensures.0, c.before.add.ensures.0, at_cell3.cell-3.ensures.0, at_cell3.before.cell-2.ensures.0)
     (rw (at_sub.sub.ensures.0, at_sub.before.cell.ensures.0) (mul_p_comm _ _))))

@@ -17,5 +17,5 @@ mu_com_spec =
     (λ c. let at_times = c.before.before in
     let at_cell2 = at_times.before.before in
     let start = at_cell2.before.before.before in
-    rw (c.sub2.ensures.0, c.before.cell3.ensures.0, at_times.times.ensures.0, at_times.before.sub.ensures.0)
-    (rw (at_cell2.cell2.ensures.0, at_cell2.before.cell.ensures.0, start.requires.1.0) (ap (sub_p _) (mul_p_comm _ _)))))
+    rw (c.sub-2.ensures.0, c.before.cell-3.ensures.0, at_times.times-moves.ensures.0, at_times.before.sub.ensures.0)
+    (rw (at_cell2.cell-2.ensures.0, at_cell2.before.cell.ensures.0, start.requires.1.0) (ap (sub_p _) (mul_p_comm _ _)))))

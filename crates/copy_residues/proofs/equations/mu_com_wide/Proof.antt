@@ -13,5 +13,5 @@ mu_com_wide_spec =
     (λ c κs. search rules)
     (λ c. let at_times = c.before.before in
     let at_cell2 = at_times.before.before in
-    rw (c.sub2.ensures.0, c.before.cell3.ensures.0, at_times.times.ensures.0, at_times.before.sub.ensures.0)
-    (rw (at_cell2.cell2.ensures.0, at_cell2.before.cell.ensures.0))))
+    rw (c.sub-2.ensures.0, c.before.cell-3.ensures.0, at_times.times-wide.ensures.0, at_times.before.sub.ensures.0)
+    (rw (at_cell2.cell-2.ensures.0, at_cell2.before.cell.ensures.0))))

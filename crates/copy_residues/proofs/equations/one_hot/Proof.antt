@@ -10,4 +10,4 @@ one_hot_spec =
     tie.close
     (tie.spec
     (λ c κs. search rules) (λ c κs. search rules) (λ c κs. search rules)
-    (λ c. rw (c.times.ensures.0, c.before.cell2.ensures.0, c.before.before.cell.ensures.0)))
+    (λ c. rw (c.times.ensures.0, c.before.cell-2.ensures.0, c.before.before.cell.ensures.0)))

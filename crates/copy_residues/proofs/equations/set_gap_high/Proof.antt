@@ -11,8 +11,8 @@ set_gap_high_spec =
     tie.close
     (tie.spec
     (λ c κs. search rules)
-    (λ c. shut_gate _ c.before.cell.ensures.0 c.if1.true)
+    (λ c. shut_gate _ c.before.cell-set.ensures.0 c.if-set-eq0.true)
     (λ c κs. search rules) (λ c κs. search rules) (λ c κs. search rules)
     (λ c. let at_gap_high = c.before.before in
     let at_cell = at_gap_high.before.before in
-    rw (c.mul.ensures.0, c.before.is_bit.ensures.0, at_gap_high.gap_high.ensures.0, at_cell.cell.ensures.0)))
+    rw (c.mul.ensures.0, c.before.is_bit.ensures.0, at_gap_high.gap_high.ensures.0, at_cell.cell-set.ensures.0)))

@@ -19,10 +19,10 @@ use Rattle.copy_residues.proofs.range.first_out.Tie as tie
 abbrev out : List ℕ → ℕ → Bool
 out row c = leb (get_or column_limits c 0) (at row c)
 
-abbrev invariant_loop : tie.invariant-loop
+abbrev invariant_loop : tie.invariant-loop-c
 invariant_loop row limits c₀ c = (c ≤ COLUMNS) × (first (out row) 0 COLUMNS ≡ first (out row) c (COLUMNS - c))
 
-abbrev decreases_loop : tie.decreases-loop
+abbrev decreases_loop : tie.decreases-loop-c
 decreases_loop row limits c₀ c = COLUMNS - c
 
 -- column c is out of range, or it is not
@@ -35,15 +35,15 @@ module _ (row : List ℕ) (c : ℕ) (h : c < COLUMNS) where
 
 -- Places: the loop's top and the row
 abbrev Top : Type 0
-Top = tie.At-loop invariant_loop decreases_loop
+Top = tie.At-loop-c invariant_loop decreases_loop
 
 abbrev row_of_lem : Top → List ℕ
 row_of_lem c = c.before.before.before.args.row.now
 
 -- the limit in the code is the definition's
-limit : (c : Top) → get_or c.before.limits.result c.loop.c 0 ≡ get_or column_limits c.loop.c 0
+limit : (c : Top) → get_or c.before.limits-below.result c.loop-c.c 0 ≡ get_or column_limits c.loop-c.c 0
 unfolding column_limits
-limit c = ap (λ (l : List ℕ). get_or l c.loop.c 0) c.before.limits.ensures
+limit c = ap (λ (l : List ℕ). get_or l c.loop-c.c 0) c.before.limits-below.ensures
 
 pub first_out_spec : {M : Type 1} → statement M
 unfolding first_out
@@ -57,9 +57,9 @@ first_out_spec =
     (λ c. search rules) (λ c. search rules) (λ c. search rules) (λ c. search rules)
     (λ c.
     let top = c.before.before.before in
-    sym (top.loop.invariant.1 ∙ hit (row_of_lem top) top.loop.c (omega arith) (omega (arith, limit top))))
+    sym (top.loop-c.invariant.1 ∙ hit (row_of_lem top) top.loop-c.c (omega arith) (omega (arith, limit top))))
     (λ c. search rules) (λ c. search rules)
     (λ c.
     let top = c.before.before.before in
-    (omega arith, top.loop.invariant.1 ∙ miss (row_of_lem top) top.loop.c (omega arith) (omega (arith, limit top))))
-    (λ c. sym (c.before.loop.invariant.1 ∙ first_end _ _ _ (omega arith))))
+    (omega arith, top.loop-c.invariant.1 ∙ miss (row_of_lem top) top.loop-c.c (omega arith) (omega (arith, limit top))))
+    (λ c. sym (c.before.loop-c.invariant.1 ∙ first_end _ _ _ (omega arith))))

@@ -21,7 +21,7 @@ row_of_lem : (o : Op) {stamp src next_src dst next_dst count next_count res : Li
     → res ≡ halves (dst_res o.call) → single ≡ bit (eqb o.piece.width 1) → set ≡ bit (eqb o.call.kind 1)
     → write ≡ bit (eqb o.call.kind 2) → first ≡ cond (eqb o.call.kind 2) o.first 0 → commits ≡ bit (mu_com o.call)
     → wide ≡ bit (mu_com o.call && eqb o.piece.width 8)
-    → numbers_at stamp 0 2 ++ eight_at o.piece.value 0 ++ numbers_at src 0 2 ++ numbers_at next_src 0 4 ++ numbers_at dst 0 2
+    → numbers_at stamp 0 2 ++ eight_at o.piece.value-1 0 ++ numbers_at src 0 2 ++ numbers_at next_src 0 4 ++ numbers_at dst 0 2
     ++ numbers_at next_dst 0 4 ++ numbers_at count 0 2 ++ numbers_at next_count 0 4 ++ numbers_at res 0 4
     ++ (o.first ∷ o.end ∷ single ∷ set ∷ write ∷ first ∷ 1 ∷ commits ∷ wide ∷ [])
     ≡ table_row o
@@ -43,20 +43,20 @@ returns c =
     let at_stamp = at_src.before.before in
     row_of_lem
     (copy_operation at_stamp.before.args.op)
-    at_stamp.words.ensures
-    at_src.words2.ensures
-    (at_dst.before.halves.ensures ∙ ap halves at_dst.before.before.wrapping_add.ensures)
-    at_dst.words3.ensures
-    (at_count.before.halves2.ensures ∙ ap halves at_count.before.before.wrapping-add2.ensures)
-    at_count.words4.ensures
-    (at_decr.halves3.ensures ∙ ap halves at_decr.before.wrapping_sub.ensures)
-    (at_res.halves4.ensures ∙ ap halves at_res.before.dst_res.ensures)
+    at_stamp.words-timestamp.ensures
+    at_src.words-src.ensures
+    (at_dst.before.halves-src_incr.ensures ∙ ap halves at_dst.before.before.wrapping_add.ensures)
+    at_dst.words-dst.ensures
+    (at_count.before.halves-dst_incr.ensures ∙ ap halves at_count.before.before.wrapping_add-2.ensures)
+    at_count.words-count.ensures
+    (at_decr.halves-count_decr.ensures ∙ ap halves at_decr.before.wrapping_sub.ensures)
+    (at_res.halves-dst_res.ensures ∙ ap halves at_res.before.dst_res.ensures)
     at_single.bit.ensures
-    at_set.bit2.ensures
-    at_write.bit3.ensures
+    at_set.bit-2.ensures
+    at_write.bit-3.ensures
     at_com.before.when.ensures
-    at_com.bit4.ensures
-    c.bit5.ensures
+    at_com.bit-4.ensures
+    c.bit-5.ensures
 
 pub cells_spec : {M : Type 1} → statement M
 cells_spec =

@@ -9,7 +9,7 @@ returns : tie.Need-returns
 returns c =
     let at_put = c.before.before in
     let at_cells = at_put.before.before.before in
-    at_put.put.ensures ∙ at_cells.cells.ensures ∙ ap table_row at_cells.before.operation.ensures
+    at_put.put.ensures ∙ at_cells.cells-row_cells.ensures ∙ ap table_row at_cells.before.operation.ensures
 
 pub write_row_spec : {M : Type 1} → statement M
 write_row_spec =

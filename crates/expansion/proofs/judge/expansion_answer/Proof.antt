@@ -26,40 +26,40 @@ abbrev n_of : tie.Start → Lengths
 n_of c = lengths_are c.args.cells c.args.stamped c.args.ops_room c.args.accesses-room
 
 -- the places where each test has failed, and the entry seen from them
-abbrev start_3 : tie.Else3 → tie.Start
+abbrev start_3 : tie.Else-call-eq18446744073709551615 → tie.Start
 start_3 c =
     let past_two = c.before.before in
     past_two.before.before
 
-abbrev start_4 : tie.Else4 → tie.Start
+abbrev start_4 : tie.Else-not_gap_apart → tie.Start
 start_4 c = start_3 c.before.before
 
-abbrev start_5 : tie.Else5 → tie.Start
+abbrev start_5 : tie.Else-past_index → tie.Start
 start_5 c = start_4 c.before.before
 
-abbrev start_6 : tie.Else6 → tie.Start
+abbrev start_6 : tie.Else-outside → tie.Start
 start_6 c = start_5 c.before.before
 
-t₇ : (c : tie.Else1) → gap_too_large c.before.args.gap ≡ false
-t₇ c = lt-leb _ _ c.if1.false
+t₇ : (c : tie.Else-gap-ge4294967296) → gap_too_large c.before.args.gap ≡ false
+t₇ c = lt-leb _ _ c.if-gap-ge4294967296.false
 
-t₈ : (c : tie.Else2) → let start = c.before.before in bad_window start.args.limit (n_of start) ≡ false
-t₈ c = c.if2.false
+t₈ : (c : tie.Else-cells-stamped) → let start = c.before.before in bad_window start.args.limit (n_of start) ≡ false
+t₈ c = c.if-cells-stamped.false
 
-t₁ : (c : tie.Else3) → last_stamp (c_of (start_3 c)) ≡ false
-t₁ c = ne_eqb _ _ c.if3.false
+t₁ : (c : tie.Else-call-eq18446744073709551615) → last_stamp (c_of (start_3 c)) ≡ false
+t₁ c = ne_eqb _ _ c.if-call-eq18446744073709551615.false
 
-t₃ : (c : tie.Else4) → not_gap_apart (start_4 c).args.gap (c_of (start_4 c)) ≡ false
-t₃ c = sym c.before.not_gap_apart.ensures ∙ c.if4.false
+t₃ : (c : tie.Else-not_gap_apart) → not_gap_apart (start_4 c).args.gap (c_of (start_4 c)) ≡ false
+t₃ c = sym c.before.not_gap_apart.ensures ∙ c.if-not_gap_apart.false
 
-t₅ : (c : tie.Else5) → past_index (c_of (start_5 c)) ≡ false
-t₅ c = sym c.before.past_index.ensures ∙ c.if5.false
+t₅ : (c : tie.Else-past_index) → past_index (c_of (start_5 c)) ≡ false
+t₅ c = sym c.before.past_index.ensures ∙ c.if-past_index.false
 
-t₂ : (c : tie.Else6) → outside_window (c_of (start_6 c)) (start_6 c).args.cells ≡ false
-t₂ c = sym c.before.outside.ensures ∙ c.if6.false
+t₂ : (c : tie.Else-outside) → outside_window (c_of (start_6 c)) (start_6 c).args.cells ≡ false
+t₂ c = sym c.before.outside.ensures ∙ c.if-outside.false
 
 -- what is known once no test but that of the buffers holds
-fair_at : (c : tie.Else6) → Fair (s_of (start_6 c)) (c_of (start_6 c)) (n_of (start_6 c))
+fair_at : (c : tie.Else-outside) → Fair (s_of (start_6 c)) (c_of (start_6 c)) (n_of (start_6 c))
 fair_at c =
     let past_5 = c.before.before in
     let past_4 = past_5.before.before in
@@ -67,91 +67,91 @@ fair_at c =
     let past_2 = past_3.before.before in
     passes_fair _ _ _ (t₇ past_2.before, t₈ past_2, t₁ past_3, t₃ past_4, t₅ past_5, t₂ c)
 
-small : (c : tie.Else6) → (start_6 c).args.limit < 2 ^ 64
+small : (c : tie.Else-outside) → (start_6 c).args.limit < 2 ^ 64
 small c = omega (arith, (start_6 c).requires)
 
 -- and then the count is small
-count_at : (c : tie.Else6) → (start_6 c).args.call.count ≤ 2 ^ 20
+count_at : (c : tie.Else-outside) → (start_6 c).args.call.count ≤ 2 ^ 20
 count_at c = omega (arith, (start_6 c).requires, count_fits _ _ _ (fair_at c) (small c))
 
-returns : tie.Need-returns
+returns : tie.Need-returns-then-gap-ge4294967296
 unfolding answer_by refusals
-returns c = rw (le-leb _ _ c.if1.true)
+returns c = rw (le-leb _ _ c.if-gap-ge4294967296.true)
 
-returns_2 : tie.Need-returns-2
+returns_2 : tie.Need-returns-then-cells-stamped
 unfolding answer_by refusals
-returns_2 c = rw (t₇ c.before, c.if2.true)
+returns_2 c = rw (t₇ c.before, c.if-cells-stamped.true)
 
-returns_3 : tie.Need-returns-3
+returns_3 : tie.Need-returns-then-call-eq18446744073709551615
 unfolding answer_by refusals
 returns_3 c =
     let past_2 = c.before.before in
-    rw (t₇ past_2.before, t₈ past_2, eq-eqb _ _ c.if3.true)
+    rw (t₇ past_2.before, t₈ past_2, eq-eqb _ _ c.if-call-eq18446744073709551615.true)
 
-returns_4 : tie.Need-returns-4
+returns_4 : tie.Need-returns-then-not_gap_apart
 unfolding answer_by refusals
 returns_4 c =
     let past_3 = c.before.before in
     let past_2 = past_3.before.before in
-    rw (t₇ past_2.before, t₈ past_2, t₁ past_3, sym c.before.not_gap_apart.ensures ∙ c.if4.true)
+    rw (t₇ past_2.before, t₈ past_2, t₁ past_3, sym c.before.not_gap_apart.ensures ∙ c.if-not_gap_apart.true)
 
-returns_5 : tie.Need-returns-5
+returns_5 : tie.Need-returns-then-past_index
 unfolding answer_by refusals
 returns_5 c =
     let past_4 = c.before.before in
     let past_3 = past_4.before.before in
     let past_2 = past_3.before.before in
-    rw (t₇ past_2.before, t₈ past_2, t₁ past_3, t₃ past_4, sym c.before.past_index.ensures ∙ c.if5.true)
+    rw (t₇ past_2.before, t₈ past_2, t₁ past_3, t₃ past_4, sym c.before.past_index.ensures ∙ c.if-past_index.true)
 
-returns_6 : tie.Need-returns-6
+returns_6 : tie.Need-returns-then-outside
 unfolding answer_by refusals
 returns_6 c =
     let past_5 = c.before.before in
     let past_4 = past_5.before.before in
     let past_3 = past_4.before.before in
     let past_2 = past_3.before.before in
-    rw (t₇ past_2.before, t₈ past_2, t₁ past_3, t₃ past_4, t₅ past_5, sym c.before.outside.ensures ∙ c.if6.true)
+    rw (t₇ past_2.before, t₈ past_2, t₁ past_3, t₃ past_4, t₅ past_5, sym c.before.outside.ensures ∙ c.if-outside.true)
 
-row_count_requires : tie.Need-row-count-requires
+row_count_requires : tie.Need-row_count-rows-requires
 row_count_requires c κs =
     (source_fits _ _ _ (fair_at c) (small c) (search rules), dest_fits _ _ _ (fair_at c) (small c) (search rules))
 
-access_count_requires : tie.Need-access-count-requires
+access_count_requires : tie.Need-access_count-accesses-requires
 access_count_requires c κs =
-    let rows = c.before.row_count.ensures in
+    let rows = c.before.row_count-rows.ensures in
     (rows.0, omega (arith, count_at c.before.before, rows.1))
 
-mul_if7 : tie.Need-overflow-mul-if7
+mul_if7 : tie.Need-overflow_mul-ops
 mul_if7 c =
     let counted = c.before in
-    omega (arith, count_at counted.before.before, counted.before.row_count.ensures.1, counted.op_count.ensures.1)
+    omega (arith, count_at counted.before.before, counted.before.row_count-rows.ensures.1, counted.op_count-ops.ensures.1)
 
-mul_if7_2 : tie.Need-overflow-mul-if7-2
+mul_if7_2 : tie.Need-overflow_mul-accesses
 mul_if7_2 c =
     let counted = c.before in
-    omega (arith, count_at counted.before.before, counted.before.row_count.ensures.1, c.access_count.ensures.1)
+    omega (arith, count_at counted.before.before, counted.before.row_count-rows.ensures.1, c.access_count-accesses.ensures.1)
 
 -- the counts of the code are those of the definition
 same_short : (c : Call) (n : Lengths) (ops accesses : ℕ) → ops ≡ op_count c → accesses ≡ access_count c → (b : Bool)
     → buffer_short ops accesses n ≡ b → buffer_short (op_count c) (access_count c) n ≡ b
 same_short c n ops accesses eo ea b e = cc
 
-returns_7 : tie.Need-returns-7
+returns_7 : tie.Need-returns-then-ops_room-ops
 returns_7 c =
     let counted = c.before in
     let start = start_6 counted.before.before.before in
     let short =
-    same_short (c_of start) (n_of start) _ _ counted.before.op_count.ensures.0 counted.access_count.ensures.0 _ c.if7.true in
+    same_short (c_of start) (n_of start) _ _ counted.before.op_count-ops.ensures.0 counted.access_count-accesses.ensures.0 _ c.if-ops_room-ops.true in
     sym (ap (with_accesses (c_of start)) (fair_short _ _ _ (fair_at counted.before.before.before) short))
 
-returns_8 : tie.Need-returns-8
+returns_8 : tie.Need-returns-then-gap-ge4294967296
 returns_8 c =
     let counted = c.before in
     let past_6 = counted.before.before.before in
     let start = start_6 past_6 in
-    let ops = counted.before.op_count.ensures.0 in
-    let accesses = counted.access_count.ensures.0 in
-    let fit = neither _ _ (same_short (c_of start) (n_of start) _ _ ops accesses _ c.if7.false) in
+    let ops = counted.before.op_count-ops.ensures.0 in
+    let accesses = counted.access_count-accesses.ensures.0 in
+    let fit = neither _ _ (same_short (c_of start) (n_of start) _ _ ops accesses _ c.if-ops_room-ops.false) in
     let room : Room (c_of start) (n_of start) = record { ops = ltb-false _ _ fit.0; accesses = ltb-false _ _ fit.1 } in
     cc (ops, accesses) ∙ sym (ap (with_accesses (c_of start)) (fair_accepted _ _ _ (fair_at past_6) room))
 

@@ -8,23 +8,23 @@ use Rattle.expansion.proofs.Judged.{apart_by_difference}
 use Rattle.expansion.proofs.judge.not_gap_apart.Statement.{statement}
 use Rattle.expansion.proofs.judge.not_gap_apart.Tie as tie
 
-returns : tie.Need-returns
-returns c = rw (ne_eqb _ _ c.if1.true)
+returns : tie.Need-returns-then-call-ne1
+returns c = rw (ne_eqb _ _ c.if-call-ne1.true)
 
-returns_2 : tie.Need-returns-2
+returns_2 : tie.Need-returns-then-call-gap
 returns_2 c =
     let at_if1 = c.before.before in
     let start = at_if1.before.before in
     let call = start.args.call in
-    rw (eq-eqb _ _ at_if1.if1.false, ne_eqb call.dst (call.src + start.args.gap) (λ q. omega arith))
+    rw (eq-eqb _ _ at_if1.if-call-ne1.false, ne_eqb call.dst (call.src + start.args.gap) (λ q. omega arith))
 
-returns_3 : tie.Need-returns-3
+returns_3 : tie.Need-returns-then-call-ne1
 returns_3 c =
     let at_if2 = c.before.before in
     let at_if1 = at_if2.before.before in
     let start = at_if1.before.before in
     let call = start.args.call in
-    rw (eq-eqb _ _ at_if1.if1.false) (ap not (apart_by_difference call.dst call.src start.args.gap at_if2.if2.false))
+    rw (eq-eqb _ _ at_if1.if-call-ne1.false) (ap not (apart_by_difference call.dst call.src start.args.gap at_if2.if-call-gap.false))
 
 pub not_gap_apart_spec : {M : Type 1} → statement M
 not_gap_apart_spec = tie.close (tie.spec returns returns_2 returns_3)

@@ -4,11 +4,11 @@ use borrow.Author.Tests.{eq-eqb, ne_eqb}
 use Rattle.expansion.proofs.judge.op_count.Statement.{statement}
 use Rattle.expansion.proofs.judge.op_count.Tie as tie
 
-returns : tie.Need-returns
-returns c = (rw (eq-eqb _ _ c.if1.true), omega arith)
+returns : tie.Need-returns-then-call-eq0
+returns c = (rw (eq-eqb _ _ c.if-call-eq0.true), omega arith)
 
-returns_2 : tie.Need-returns-2
-returns_2 c = (rw (ne_eqb _ _ c.if1.false) c.before.before.requires, omega arith)
+returns_2 : tie.Need-returns-else-call-eq0
+returns_2 c = (rw (ne_eqb _ _ c.if-call-eq0.false) c.before.before.requires, omega arith)
 
 pub op_count_spec : {M : Type 1} → statement M
 op_count_spec = tie.close (tie.spec returns returns_2)

@@ -8,9 +8,9 @@ use Rattle.expansion_rows.proofs.rows.op_record.Tie as tie
 
 returns : tie.Need-returns
 returns c =
-    let v = c.before.byte_words.result in
+    let v = c.before.byte_words-v.result in
     let n : length v ≡ 8 = search rules in
-    cc (eight_back v n, c.before.byte_words.ensures, c.end_flag.ensures)
+    cc (eight_back v n, c.before.byte_words-v.ensures, c.end_flag-end.ensures)
 
 pub op_record_spec : {M : Type 1} → statement M
 op_record_spec =

@@ -13,104 +13,104 @@ use Rattle.expansion_rows.proofs.ReadLoop.{PassAt, Ahead, pass_start, ahead, pas
 use Rattle.expansion_rows.proofs.turns.read_pass.Statement.{statement}
 use Rattle.expansion_rows.proofs.turns.read_pass.Tie as tie
 
-abbrev invariant_loop : tie.invariant-loop
+abbrev invariant_loop : tie.invariant-loop-left
 invariant_loop bytes₀ stamps₀ ops₀ accesses₀ per left₀ first₀ k₀ j₀ bytes stamps ops accesses left first k j =
     PassAt (call_of left₀) bytes₀ stamps₀ ops₀ accesses₀ per bytes stamps ops accesses (call_of left) first k j
 
-abbrev decreases_loop : tie.decreases-loop
+abbrev decreases_loop : tie.decreases-loop-left
 decreases_loop bytes₀ stamps₀ ops₀ accesses₀ per left₀ first₀ k₀ j₀ bytes stamps ops accesses left first k j = left.count
 
 -- Places, seen from later ones
 
-abbrev to_start : tie.After-per-turn invariant_loop decreases_loop → tie.Start invariant_loop decreases_loop
+abbrev to_start : tie.After-per_turn-per invariant_loop decreases_loop → tie.Start invariant_loop decreases_loop
 to_start c =
     let at_slice_known2 = c.before.before.before in
     at_slice_known2.before.before
 
-abbrev to_loop : tie.After-copy-row-width invariant_loop decreases_loop → tie.At-loop invariant_loop decreases_loop
+abbrev to_loop : tie.After-copy_row_width-width invariant_loop decreases_loop → tie.At-loop-left invariant_loop decreases_loop
 to_loop c = c.before.before.before
 
-abbrev to_copy_row_width : tie.After-row-turn-arg4 invariant_loop decreases_loop → tie.After-copy-row-width invariant_loop decreases_loop
+abbrev to_copy_row_width : tie.After-row_turn-arg-in-loop-left-3-1 invariant_loop decreases_loop → tie.After-copy_row_width-width invariant_loop decreases_loop
 to_copy_row_width c =
     let at_row_turn_arg = c.before.before.before in
     at_row_turn_arg.before
 
-abbrev to_row_turn : tie.After-slice-known8 invariant_loop decreases_loop → tie.After-row-turn invariant_loop decreases_loop
+abbrev to_row_turn : tie.After-slice_known-in-loop-left-4-1 invariant_loop decreases_loop → tie.After-row_turn invariant_loop decreases_loop
 to_row_turn c =
     let at_ops = c.before.before.before in
     let at_slice_known5 = at_ops.before.before.before in
     at_slice_known5.before.before
 
-abbrev turned : tie.After-slice-known8 invariant_loop decreases_loop → tie.After-copy-row-width invariant_loop decreases_loop
+abbrev turned : tie.After-slice_known-in-loop-left-4-1 invariant_loop decreases_loop → tie.After-copy_row_width-width invariant_loop decreases_loop
 turned c = to_copy_row_width (to_row_turn c).before
 
 -- what a turn may count on, once its width is known
-ahead_at : (c : tie.After-copy-row-width invariant_loop decreases_loop)
-    → let l = (to_loop c).loop in
-    Ahead (to_loop c).before.per_turn.result l.bytes l.stamps l.ops l.accesses (call_of l.left) l.k l.j c.copy_row_width.result
+ahead_at : (c : tie.After-copy_row_width-width invariant_loop decreases_loop)
+    → let l = (to_loop c).loop-left in
+    Ahead (to_loop c).before.per_turn-per.result l.bytes-1 l.stamps-1 l.ops-1 l.accesses-1 (call_of l.left) l.k l.j c.copy_row_width-width.result
 ahead_at c =
-    let l = (to_loop c).loop in
+    let l = (to_loop c).loop-left in
     let at_per_turn = (to_loop c).before in
     let start = to_start at_per_turn in
     let a = start.args in
-    ahead (call_of a.call) a.bytes.now a.stamps.now a.ops.now a.accesses.now at_per_turn.per_turn.result
-    l.bytes l.stamps l.ops l.accesses (call_of l.left) l.first l.k l.j l.inv
-    start.pre c.before.if1.true c.copy_row_width.result c.copy_row_width.ensures
+    ahead (call_of a.call) a.bytes-1.now a.stamps-1.now a.ops-1.now a.accesses-1.now at_per_turn.per_turn-per.result
+    l.bytes-1 l.stamps-1 l.ops-1 l.accesses-1 (call_of l.left) l.first l.k l.j l.inv
+    start.pre c.before.loop-left-test.true c.copy_row_width-width.result c.copy_row_width-width.ensures
 
-loop_holds : tie.Need-loop-init invariant_loop decreases_loop
+loop_holds : tie.Need-loop-left-init invariant_loop decreases_loop
 loop_holds c =
     let start = to_start c in
     let a = start.args in
-    pass_start (call_of a.call) a.bytes.now a.stamps.now a.ops.now a.accesses.now
-    c.per_turn.result start.pre c.per_turn.ensures
+    pass_start (call_of a.call) a.bytes-1.now a.stamps-1.now a.ops-1.now a.accesses-1.now
+    c.per_turn-per.result start.pre c.per_turn-per.ensures
 
-row_turn_requires : tie.Need-row-turn-requires invariant_loop decreases_loop
+row_turn_requires : tie.Need-row_turn-requires invariant_loop decreases_loop
 row_turn_requires c κs =
     let at_copy_row_width = to_copy_row_width c in
     let at_loop = to_loop at_copy_row_width in
     let h = ahead_at at_copy_row_width in
-    let l = at_loop.loop in
-    let per = at_loop.before.per_turn.result in
-    let op = run_length l.ops (OP_WIDTH * l.k) (OP_WIDTH * l.k + OP_WIDTH - OP_WIDTH * l.k) (omega (arith, h.op_room)) in
+    let l = at_loop.loop-left in
+    let per = at_loop.before.per_turn-per.result in
+    let op = run_length l.ops-1 (OP_WIDTH * l.k) (OP_WIDTH * l.k + OP_WIDTH - OP_WIDTH * l.k) (omega (arith, h.op_room)) in
     let access = ACCESS_WIDTH * l.j in
-    let part = run_length l.accesses access (ACCESS_WIDTH * (l.j + per) - access) (omega (arith, h.access_room)) in
+    let part = run_length l.accesses-1 access (ACCESS_WIDTH * (l.j + per) - access) (omega (arith, h.access_room)) in
     (h.wide, omega (arith, h.source, h.within), h.dest, h.window, omega (arith, op), omega (arith, part, h.access_part), h.later)
 
-rest_requires : tie.Need-rest-requires invariant_loop decreases_loop
+rest_requires : tie.Need-rest-left-requires invariant_loop decreases_loop
 rest_requires c κs =
     let h = ahead_at (turned c) in
     (h.within, omega (arith, h.source), h.small)
 
-add_k : tie.Need-overflow-add-k invariant_loop decreases_loop
+add_k : tie.Need-overflow_add-k-in-loop-left invariant_loop decreases_loop
 add_k c =
     let at_loop = to_loop (turned c.before) in
-    omega (arith, (ahead_at (turned c.before)).op_room, at_loop.loop.inv.ops_same, (to_start at_loop.before).good)
+    omega (arith, (ahead_at (turned c.before)).op_room, at_loop.loop-left.inv.ops_same, (to_start at_loop.before).good)
 
-add_j : tie.Need-overflow-add-j invariant_loop decreases_loop
+add_j : tie.Need-overflow_add-j-in-loop-left invariant_loop decreases_loop
 add_j c =
     let at_loop = to_loop (turned c.before) in
-    omega (arith, (ahead_at (turned c.before)).access_room, at_loop.loop.inv.accesses_same, (to_start at_loop.before).good)
+    omega (arith, (ahead_at (turned c.before)).access_room, at_loop.loop-left.inv.accesses_same, (to_start at_loop.before).good)
 
-loop_less : tie.Need-loop-smaller invariant_loop decreases_loop
+loop_less : tie.Need-loop-left-smaller invariant_loop decreases_loop
 loop_less c =
     let h = ahead_at (turned c.before) in
-    omega (arith, h.pos, h.within, ap (λ (x : Call). x.count) c.rest.ensures)
+    omega (arith, h.pos, h.within, ap (λ (x : Call). x.count) c.rest-left.ensures)
 
-loop_again : tie.Need-loop-preserved invariant_loop decreases_loop
+loop_again : tie.Need-loop-left-preserved invariant_loop decreases_loop
 loop_again c =
     let t = (to_row_turn c.before).row_turn in
     let at_copy_row_width = turned c.before in
-    let width = at_copy_row_width.copy_row_width in
+    let width = at_copy_row_width.copy_row_width-width in
     let at_loop = to_loop at_copy_row_width in
-    let l = at_loop.loop in
+    let l = at_loop.loop-left in
     let at_per_turn = at_loop.before in
     let start = to_start at_per_turn in
     let a = start.args in
-    pass_turn (call_of a.call) a.bytes.now a.stamps.now a.ops.now a.accesses.now at_per_turn.per_turn.result
-    l.bytes l.stamps l.ops l.accesses (call_of l.left) l.first l.k l.j l.inv
-    start.pre at_copy_row_width.before.if1.taken width.result width.ensures
-    t.last.1.1.1.0 t.last.1.1.1.1.0 t.last.1.1.1.1.1.0 t.last.1.1.1.1.1.1.0 (call_of c.rest.result)
-    t.ensures.0 t.ensures.1.0 t.ensures.1.1.0 t.ensures.1.1.1 c.rest.ensures
+    pass_turn (call_of a.call) a.bytes-1.now a.stamps-1.now a.ops-1.now a.accesses-1.now at_per_turn.per_turn-per.result
+    l.bytes-1 l.stamps-1 l.ops-1 l.accesses-1 (call_of l.left) l.first l.k l.j l.inv
+    start.pre at_copy_row_width.before.loop-left-test.taken width.result width.ensures
+    t.last.1.1.1.0 t.last.1.1.1.1.0 t.last.1.1.1.1.1.0 t.last.1.1.1.1.1.1.0 (call_of c.rest-left.result)
+    t.ensures.0 t.ensures.1.0 t.ensures.1.1.0 t.ensures.1.1.1 c.rest-left.ensures
     t.kept.1.1.1.0 t.kept.1.1.1.1.0 t.kept.1.1.1.1.1.0 t.kept.1.1.1.1.1.1.0
 
 returns : tie.Need-returns invariant_loop decreases_loop
@@ -119,10 +119,10 @@ returns c =
     let at_per_turn = at_loop.before in
     let start = to_start at_per_turn in
     let a = start.args in
-    let l = at_loop.loop in
+    let l = at_loop.loop-left in
     let none : l.left.count ≡ 0 = omega arith in
-    let ends = pass_end (call_of a.call) a.bytes.now a.stamps.now a.ops.now a.accesses.now at_per_turn.per_turn.result in
-    ends l.bytes l.stamps l.ops l.accesses (call_of l.left) l.first l.k l.j l.invariant none
+    let ends = pass_end (call_of a.call) a.bytes-1.now a.stamps-1.now a.ops-1.now a.accesses-1.now at_per_turn.per_turn-per.result in
+    ends l.bytes-1 l.stamps-1 l.ops-1 l.accesses-1 (call_of l.left) l.first l.k l.j l.invariant none
 
 pub read_pass_spec : {M : Type 1} → statement M
 read_pass_spec =

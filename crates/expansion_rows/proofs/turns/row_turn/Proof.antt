@@ -13,13 +13,13 @@ use Rattle.expansion_rows.proofs.turns.row_turn.Tie as tie
 
 -- Places, seen from later ones
 
-abbrev to_start : tie.After-turn-arg3 → tie.Start
+abbrev to_start : tie.After-turn-arg-3-1 → tie.Start
 to_start c =
     let at_slice_known4 = c.before.before.before in
     let at_slice_known = at_slice_known4.before.before.before in
     at_slice_known.before
 
-turn_requires : tie.Need-turn-requires
+turn_requires : tie.Need-turn-value-requires
 turn_requires c κs =
     let start = to_start c in
     let p = start.pre in
@@ -38,13 +38,13 @@ returns c =
     let ended = bit (leb a.call.count a.width) in
     let op : List ℕ → Op =
     λ v. record { call = call_of a.call; piece = record { width = a.width; value = v }; first = a.first; end = ended } in
-    let t = at_turn.turn.ensures in (
+    let t = at_turn.turn-value.ensures in (
       t.1.0,
       (
         t.1.1.0,
         (
           at_put.put.ensures
-              ∙ at_op_record.op_record.ensures
+              ∙ at_op_record.op_record-numbers.ensures
               ∙ ap (λ (v : List ℕ). op_record (op v)) t.0,
           t.1.1.1,
         ),

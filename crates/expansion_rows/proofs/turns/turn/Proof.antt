@@ -8,30 +8,30 @@ use Rattle.expansion_rows.proofs.turns.turn.Tie as tie
 
 -- Places, seen from later ones
 
-abbrev to_start : tie.Else1 → tie.Start
+abbrev to_start : tie.Else-call-eq1 → tie.Start
 to_start c =
     let at_slice_known2 = c.before.before.before in
     at_slice_known2.before.before
 
-set_turn_requires : tie.Need-set-turn-requires
+set_turn_requires : tie.Need-set_turn-requires
 set_turn_requires c κs =
     let at_if1 = c.before.before.before in
     let at_slice_known2 = at_if1.before.before.before in
     let start = at_slice_known2.before.before in
     let p = start.requires in
     let a = start.args in
-    let set = at_if1.if1.true in
+    let set = at_if1.if-call-eq1.true in
     (set, p.0, p.1, p.2 set, p.3, set_room (call_of a.call) set p.4, p.5)
 
-read_cells_requires : tie.Need-read-cells-requires
+read_cells_requires : tie.Need-read_cells-requires
 read_cells_requires c κs =
     let at_if1 = c.before.before.before in
     let start = to_start at_if1 in
     let p = start.pre in
     let a = start.args in
-    (p.0, p.1, p.3, read_room (call_of a.call) at_if1.if1.false p.4)
+    (p.0, p.1, p.3, read_room (call_of a.call) at_if1.if-call-eq1.false p.4)
 
-returns_2 : tie.Need-returns-2
+returns_2 : tie.Need-returns-then-call-eq1
 returns_2 c =
     let at_stamps2 = c.before.before.before in
     let at_read_cells = at_stamps2.before in
@@ -42,12 +42,12 @@ returns_2 c =
     let p = start.pre in
     let r = at_read_cells.read_cells.ensures in
     let here = call_of a.call in
-    let bytes = a.bytes.now in
-    let stamps = a.stamps.now in (
+    let bytes = a.bytes-1.now in
+    let stamps = a.stamps-1.now in (
       r.0,
       (
-        sym (read_bytes here a.width bytes stamps at_if1.if1.false p.0 p.1),
-        (r.1.0 ∙ read_stamps here a.width bytes stamps at_if1.if1.false, r.1.1 ∙ read_accesses here a.width bytes stamps at_if1.if1.false),
+        sym (read_bytes here a.width bytes stamps at_if1.if-call-eq1.false p.0 p.1),
+        (r.1.0 ∙ read_stamps here a.width bytes stamps at_if1.if-call-eq1.false, r.1.1 ∙ read_accesses here a.width bytes stamps at_if1.if-call-eq1.false),
       ),
     )
 

@@ -24,44 +24,44 @@ abbrev lent : tie.Start → List ℕ
 lent c = c.args.«record».now
 
 -- the entry, seen from the access, and its answer
-abbrev start_of : tie.After-push-reg-access → tie.Start
+abbrev start_of : tie.After-push_reg_access-access → tie.Start
 start_of c = c.before.before.before
 
-answer_at : (c : tie.After-numbers) → let s = start_of c.before in c.numbers.result.answer ≡ access_answer s.args.is_read (access s)
+answer_at : (c : tie.After-numbers-told) → let s = start_of c.before in c.numbers-told.result.answer-1 ≡ access_answer s.args.is_read (access s)
 answer_at c =
     let found = c.before in
     let s = start_of found in
-    ap (λ (n : AccessNumbers). n.answer) (c.numbers.ensures ∙ found.push_reg_access.ensures.0)
-    ∙ pushed_answer s.args.is_read (access s) (lent s) found.before.if1.false
+    ap (λ (n : AccessNumbers). n.answer-1) (c.numbers-told.ensures ∙ found.push_reg_access-access.ensures.0)
+    ∙ pushed_answer s.args.is_read (access s) (lent s) found.before.if-is_read-gt1.false
 
-returns : tie.Need-returns
+returns : tie.Need-returns-then-is_read-gt1
 returns c =
     let s = c.before.before.before in
-    push_ten s.args.is_read (access s) (lent s) _ c.refuse.ensures c.before.if1.true
+    push_ten s.args.is_read (access s) (lent s) _ c.refuse.ensures c.before.if-is_read-gt1.true
 
-returns_2 : tie.Need-returns-2
+returns_2 : tie.Need-returns-then-answer-ne0
 returns_2 c =
     let told = c.before.before.before in
     let s = start_of told.before in
-    push_refused s.args.is_read (access s) (lent s) _ (answer_at told) c.if2.true
+    push_refused s.args.is_read (access s) (lent s) _ (answer_at told) c.if-answer-ne0.true
 
-returns_3 : tie.Need-returns-3
+returns_3 : tie.Need-returns-then-answer-ne0-2
 returns_3 c =
     let at_if2 = c.before.before.before in
     let told = at_if2.before.before.before in
     let found = told.before in
     let s = start_of found in
-    push_whole s.args.is_read (access s) (lent s) _ (answer_at told) at_if2.if2.false c.if3.true _ found.push_reg_access.ensures.1
+    push_whole s.args.is_read (access s) (lent s) _ (answer_at told) at_if2.if-answer-ne0.false c.if-answer-ne0-2.true _ found.push_reg_access-access.ensures.1
 
-returns_4 : tie.Need-returns-4
+returns_4 : tie.Need-returns-then-is_read-gt1
 returns_4 c =
     let at_list = c.before.before.before in
     let at_if2 = at_list.before in
     let told = at_if2.before.before.before in
     let found = told.before in
     let s = start_of found in
-    push_front s.args.is_read (access s) (lent s) _ (answer_at told) at_if2.if2.false c.before.if3.false _
-    (c.register_front.ensures ∙ ap (λ (w : List ℕ). take REGISTER_WIDTH w ++ drop REGISTER_WIDTH (lent s)) found.push_reg_access.ensures.1)
+    push_front s.args.is_read (access s) (lent s) _ (answer_at told) at_if2.if-answer-ne0.false c.before.if-answer-ne0-2.false _
+    (c.register_front.ensures ∙ ap (λ (w : List ℕ). take REGISTER_WIDTH w ++ drop REGISTER_WIDTH (lent s)) found.push_reg_access-access.ensures.1)
 
 pub push_reg_access_spec : {M : Type 1} → statement M
 push_reg_access_spec =

@@ -15,17 +15,17 @@ use Rattle.exports.proofs.flat_expansion.collect_copy_ops.Tie as tie
 
 -- Places: the entry, the call before the expansion, and after it
 
-abbrev start_of : tie.After-slice-known4 → tie.Start
+abbrev start_of : tie.After-slice_known-4-1 → tie.Start
 start_of c =
     let second = c.before.before in
     second.before.before
 
-abbrev called_of : tie.After-collect-copy-ops → tie.After-kind-of
+abbrev called_of : tie.After-collect_copy_ops-found → tie.After-kind_of
 called_of c =
     let half = c.before.before.before in
     half.before.before
 
-abbrev back_of : tie.After-numbers → tie.After-collect-copy-ops
+abbrev back_of : tie.After-numbers-answer → tie.After-collect_copy_ops-found
 back_of c =
     let ops = c.before.before.before in
     let stamps = ops.before.before.before in
@@ -33,7 +33,7 @@ back_of c =
 
 -- the lent slices at the entry, and the try with a kind k
 abbrev slices_in : tie.Start → Lent
-slices_in c = lent c.args.bytes.now c.args.stamps.now c.args.ops.now c.args.accesses.now
+slices_in c = lent c.args.bytes-1.now c.args.stamps-1.now c.args.ops-1.now c.args.accesses-1.now
 
 abbrev with_kind_place : tie.Start → ℕ → Try
 with_kind_place c k = let a = c.args in try_of (record { kind = k; stamp = a.timestamp; src = a.src; dst = a.dst; count = a.count }) (slices_in c)
@@ -41,18 +41,18 @@ with_kind_place c k = let a = c.args in try_of (record { kind = k; stamp = a.tim
 abbrev handed : tie.Start → Try
 handed c = with_kind_place c c.args.kind
 
-module _ (c : tie.After-numbers) where
-  abbrev called : tie.After-kind-of
+module _ (c : tie.After-numbers-answer) where
+  abbrev called : tie.After-kind_of
   called = called_of (back_of c)
 
   abbrev entry : tie.Start
   entry = start_of called.before.before.before
 
   abbrev found : ExpansionNumbers
-  found = expansion_numbers (back_of c).collect_copy_ops.result
+  found = expansion_numbers (back_of c).collect_copy_ops-found.result
 
   is_kind : no_kind entry.args.kind ≡ false
-  is_kind = let tested = called.before in sym tested.before.no_kind.ensures ∙ tested.if1.left
+  is_kind = let tested = called.before in sym tested.before.no_kind.ensures ∙ tested.if-no_kind.left
 
   -- the kind that was handed on has the number that came in
   back : kind_number called.kind_of.result ≡ entry.args.kind
@@ -67,19 +67,19 @@ collect_copy_ops_spec =
     tie.close
     (tie.spec
     (λ c κs. search rules) (λ c κs. search rules)
-    (λ c. let e = start_of c.before.before.before in ten e.args.gap (handed e) e.args.counts.now
-    (sym c.before.before.no_kind.ensures ∙ c.before.if1.true) _ c.refuse.ensures)
+    (λ c. let e = start_of c.before.before.before in ten e.args.gap (handed e) e.args.counts-1.now
+    (sym c.before.before.no_kind.ensures ∙ c.before.if-no_kind.true) _ c.refuse.ensures)
     (λ c κs. search rules) (λ c κs. search rules) (λ c κs. search rules) (λ c. search rules) (λ c. search rules)
     (λ c. search rules) (λ c. search rules)
     (λ c.
     let n = c.before.before in let e = entry n in
-    let done = done_as n _ (back_of n).collect_copy_ops.ensures in
-    refused_flat e.args.gap (handed e) e.args.counts.now (is_kind n) (found n) _ done _ n.numbers.ensures c.if2.true)
+    let done = done_as n _ (back_of n).collect_copy_ops-found.ensures in
+    refused_flat e.args.gap (handed e) e.args.counts-1.now (is_kind n) (found n) _ done _ n.numbers-answer.ensures c.if-answer-ne0.true)
     (λ c κs. search rules) (λ c. search rules) (λ c. search rules) (λ c. search rules) (λ c. search rules)
     (λ c.
     let told = c.before.before in
     let n = told.before.before in
     let e = entry n in
-    let done = done_as n _ (back_of n).collect_copy_ops.ensures in
-    taken_flat e.args.gap (handed e) e.args.counts.now (is_kind n) (found n) _ done _ n.numbers.ensures told.if2.false
+    let done = done_as n _ (back_of n).collect_copy_ops-found.ensures in
+    taken_flat e.args.gap (handed e) e.args.counts-1.now (is_kind n) (found n) _ done _ n.numbers-answer.ensures told.if-answer-ne0.false
     _ c.before.access_count.ensures))

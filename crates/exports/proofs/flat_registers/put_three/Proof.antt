@@ -19,12 +19,12 @@ returns c =
     let first = at_put_at_arg2.before.before.before in
     let at_shared_slice_known2 = first.before.before.before in
     let start = at_shared_slice_known2.before.before.before in
-    let l = start.args.flat.now in
+    let l = start.args.flat-1.now in
     let x = start.args.values.now in
     let y = start.args.stamps.now in
     let z = start.args.rest.now in
-    third.put-at3.ensures
-    ∙ ap (λ (t : List ℕ). store t 64 z) second.put-at2.ensures
+    third.put_at-3.ensures
+    ∙ ap (λ (t : List ℕ). store t 64 z) second.put_at-2.ensures
     ∙ store_behind _ 32 64 y z (omega arith)
     ∙ ap (λ (t : List ℕ). store t 32 (y ++ z)) first.put_at.ensures
     ∙ store_behind l 0 32 x (y ++ z) (omega arith)

@@ -9,7 +9,7 @@ returns c =
     let flat = c.before.before.args.t1 in
     λ i. record {
       values = c.before.thirty_two.ensures i;
-      stamps = c.thirty-two2.ensures i;
+      stamps = c.thirty_two-2.ensures i;
       index = at flat 64;
       index_stamp = at flat 65;
       pc = at flat 66;

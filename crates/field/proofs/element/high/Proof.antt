@@ -4,25 +4,25 @@ use Rattle.field.proofs.Reduction.{low_low, high_low, low_high, high_high, halve
 use Rattle.field.proofs.element.high.Statement.{statement}
 use Rattle.field.proofs.element.high.Tie as tie
 
-mul_t : tie.Need-overflow-mul-t
+mul_t : tie.Need-overflow_mul-t
 mul_t c = omega (arith, high_low c.args.a c.args.b (omega arith))
 
-mul_t_2 : tie.Need-overflow-mul-t-2
+mul_t_2 : tie.Need-overflow_mul-t-2
 mul_t_2 c = omega (arith, low_low c.args.a c.args.b)
 
-add_t : tie.Need-overflow-add-t
+add_t : tie.Need-overflow_add-t
 add_t c = omega (arith, high_low c.args.a c.args.b (omega arith), low_low c.args.a c.args.b)
 
-mul_w : tie.Need-overflow-mul-w
+mul_w : tie.Need-overflow_mul-w
 mul_w c = omega (arith, low_high c.args.a c.args.b (omega arith))
 
-add_w : tie.Need-overflow-add-w
+add_w : tie.Need-overflow_add-w
 add_w c = omega (arith, low_high c.args.a c.args.b (omega arith))
 
-mul_result : tie.Need-overflow-mul-result
+mul_result : tie.Need-overflow_mul-result
 mul_result c = omega (arith, high_high c.args.a c.args.b (omega arith) (omega arith))
 
-add_result : tie.Need-overflow-add-result
+add_result : tie.Need-overflow_add-result
 add_result c =
     omega (
       arith,
@@ -31,7 +31,7 @@ add_result c =
       low_low c.args.a c.args.b,
     )
 
-add_result_2 : tie.Need-overflow-add-result-2
+add_result_2 : tie.Need-overflow_add-result-2
 add_result_2 c =
     omega (
       arith,

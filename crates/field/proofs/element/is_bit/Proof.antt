@@ -11,5 +11,5 @@ is_bit_spec =
     tie.close
     (tie.spec
     (λ c κs. search rules) (λ c κs. search rules)
-    (λ c. (sym (bit_zero _ c.if1.true), search rules))
+    (λ c. (sym (bit_zero _ c.if-x-lt2.true), search rules))
     (λ c. (c.mul.ensures.0 ∙ ap (mul_p _) c.before.sub.ensures.0, search rules)))

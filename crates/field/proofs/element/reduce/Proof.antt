@@ -6,29 +6,29 @@ use Rattle.field.proofs.Reduction.{reduced, middle_below, middle_room, sum_kept,
 use Rattle.field.proofs.element.reduce.Statement.{statement}
 use Rattle.field.proofs.element.reduce.Tie as tie
 
-returns : tie.Need-returns
+returns : tie.Need-returns-then-low-room
 returns c =
     let hi : ℕ = c.before.before.before.args.hi in
-    let low : ℕ = c.before.before.if1.low in
+    let low : ℕ = c.before.before.if-top-lo.low in
     let middle : ℕ = hi % 2 ^ 32 * 0xffff_ffff in
     let e : low + middle + 0 * p ≡ low + middle = sum_kept low middle in
-    let l : low + middle < p = kept_below low middle (middle_below hi) c.before.if2.true in (
+    let l : low + middle < p = kept_below low middle (middle_below hi) c.before.if-low-room.true in (
       ⊎_elim (λ w. reduced 0 0 _ _ low _ (omega arith) e l)
           (λ w. reduced 1 0 _ _ low _ (borrowed _ _ low (top_below hi c.before.before.before.ranges.hi.fits) w.1) e l)
-          c.before.before.if1.branch,
+          c.before.before.if-top-lo.branch,
       l,
     )
 
-returns_2 : tie.Need-returns-2
+returns_2 : tie.Need-returns-else-low-room
 returns_2 c =
     let hi : ℕ = c.before.before.before.args.hi in
-    let low : ℕ = c.before.before.if1.low in
+    let low : ℕ = c.before.before.if-top-lo.low in
     let middle : ℕ = hi % 2 ^ 32 * 0xffff_ffff in
-    let e : low - (p - middle) + 1 * p ≡ low + middle = taken low middle (middle_below hi) c.before.if2.false in
-    let l : low - (p - middle) < p = taken_below low middle (middle_below hi) c.before.if2.false c.row-known2.given.fits (middle_room hi) in (
+    let e : low - (p - middle) + 1 * p ≡ low + middle = taken low middle (middle_below hi) c.before.if-low-room.false in
+    let l : low - (p - middle) < p = taken_below low middle (middle_below hi) c.before.if-low-room.false c.row_known-else-low-room-1.given.fits (middle_room hi) in (
       ⊎_elim (λ w. reduced 0 1 _ _ low _ (omega arith) e l)
           (λ w. reduced 1 1 _ _ low _ (borrowed _ _ low (top_below hi c.before.before.before.ranges.hi.fits) w.1) e l)
-          c.before.before.if1.branch,
+          c.before.before.if-top-lo.branch,
       l,
     )
 

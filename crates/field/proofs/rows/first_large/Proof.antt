@@ -10,10 +10,10 @@ use Rattle.field.proofs.FirstLarge.{large}
 use Rattle.field.proofs.rows.first_large.Statement.{statement}
 use Rattle.field.proofs.rows.first_large.Tie as tie
 
-abbrev invariant_loop : tie.invariant-loop
+abbrev invariant_loop : tie.invariant-loop-c
 invariant_loop row c₀ c = (c ≤ length row) × (first (large row) 0 (length row) ≡ first (large row) c (length row - c))
 
-abbrev decreases_loop : tie.decreases-loop
+abbrev decreases_loop : tie.decreases-loop-c
 decreases_loop row c₀ c = length row - c
 
 -- number c is no element, or it is one
@@ -35,9 +35,9 @@ first_large_spec =
     (λ c. search rules) (λ c. search rules)
     (λ c.
     let top = c.before.before.before in
-    sym (top.loop.invariant.1 ∙ hit top.before.args.row.now top.loop.c (omega arith) (omega arith)))
+    sym (top.loop-c.invariant.1 ∙ hit top.before.args.row.now top.loop-c.c (omega arith) (omega arith)))
     (λ c. search rules) (λ c. search rules)
     (λ c.
     let top = c.before.before.before in
-    (omega arith, top.loop.invariant.1 ∙ miss top.before.args.row.now top.loop.c (omega arith) (omega arith)))
-    (λ c. sym (c.before.loop.invariant.1 ∙ first_end _ _ _ (omega arith))))
+    (omega arith, top.loop-c.invariant.1 ∙ miss top.before.args.row.now top.loop-c.c (omega arith) (omega arith)))
+    (λ c. sym (c.before.loop-c.invariant.1 ∙ first_end _ _ _ (omega arith))))

@@ -10,19 +10,19 @@ use lib.Seq.{drop-length}
 use Rattle.lists.proofs.slices.clear.Statement.{statement}
 use Rattle.lists.proofs.slices.clear.Tie as tie
 
-abbrev invariant_loop : tie.invariant-loop
+abbrev invariant_loop : tie.invariant-loop-i
 invariant_loop row₀ i₀ row i = (i ≤ length row₀) × (length row ≡ length row₀) × (row ≡ replicate i 0 ++ drop i row₀)
 
-abbrev decreases_loop : tie.decreases-loop
+abbrev decreases_loop : tie.decreases-loop-i
 decreases_loop row₀ i₀ row i = length row₀ - i
 
-loop_holds : tie.Need-loop-init invariant_loop decreases_loop
+loop_holds : tie.Need-loop-i-init invariant_loop decreases_loop
 loop_holds c = (omega arith, refl, fill_none _ 0)
 
-loop_again : tie.Need-loop-preserved invariant_loop decreases_loop
+loop_again : tie.Need-loop-i-preserved invariant_loop decreases_loop
 loop_again c =
     let row₀ = c.before.before.args.row.now in
-    let at = c.before.loop in (
+    let at = c.before.loop-i in (
       omega arith,
       simp length-set at.invariant.1,
       ap (λ o. set o at.i 0) at.invariant.2 ∙ fill_more at.i 0 row₀ (omega arith),
@@ -31,8 +31,8 @@ loop_again c =
 returns : tie.Need-returns invariant_loop decreases_loop
 returns c =
     let row₀ = c.before.before.args.row.now in
-    let e : c.before.loop.i ≡ length row₀ = omega arith in
-    (rw (e, drop-length, append-nil) at c.before.loop.invariant.2)
+    let e : c.before.loop-i.i ≡ length row₀ = omega arith in
+    (rw (e, drop-length, append-nil) at c.before.loop-i.invariant.2)
 
 pub clear_spec : {M : Type 1} → statement M
 clear_spec =

@@ -9,4 +9,4 @@ number_spec =
     tie.close
     (tie.spec
     (λ c. search rules) (λ c. search rules) (λ c. search rules)
-    (λ c. let a = c.before.args in past a.list.now a.i c.if1.false))
+    (λ c. let a = c.before.args in past a.list.now a.i c.if-i-list.false))

@@ -9,30 +9,30 @@ use Rattle.lists.proofs.Store.{store_all, store_turn, store_end}
 use Rattle.lists.proofs.slices.put.Statement.{statement}
 use Rattle.lists.proofs.slices.put.Tie as tie
 
-abbrev invariant_loop : tie.invariant-loop
+abbrev invariant_loop : tie.invariant-loop-i
 invariant_loop dst₀ src i₀ dst i = (i ≤ length src) × (length dst ≡ length src) × (length dst ≡ length dst₀) × (store dst i (drop i src) ≡ src)
 
-abbrev decreases_loop : tie.decreases-loop
+abbrev decreases_loop : tie.decreases-loop-i
 decreases_loop dst₀ src i₀ dst i = length src - i
 
-loop_holds : tie.Need-loop-init invariant_loop decreases_loop
+loop_holds : tie.Need-loop-i-init invariant_loop decreases_loop
 loop_holds c = (omega arith, c.requires, refl, store_all _ _ c.requires)
 
-loop_again : tie.Need-loop-preserved invariant_loop decreases_loop
+loop_again : tie.Need-loop-i-preserved invariant_loop decreases_loop
 loop_again c =
     let at = c.before.before in
     let src = at.before.args.src.now in (
       omega arith,
-      simp length-set at.loop.invariant.1,
-      simp length-set at.loop.invariant.2,
-      store_turn at.loop.dst src at.loop.i at.loop.i (omega arith) ∙ at.loop.invariant.3,
+      simp length-set at.loop-i.invariant.1,
+      simp length-set at.loop-i.invariant.2,
+      store_turn at.loop-i.dst src at.loop-i.i at.loop-i.i (omega arith) ∙ at.loop-i.invariant.3,
     )
 
 returns : tie.Need-returns invariant_loop decreases_loop
 returns c =
     let at = c.before in
     let src = at.before.args.src.now in
-    sym (store_end at.loop.dst src at.loop.i at.loop.i (omega arith)) ∙ at.loop.invariant.3
+    sym (store_end at.loop-i.dst src at.loop-i.i at.loop-i.i (omega arith)) ∙ at.loop-i.invariant.3
 
 pub put_spec : {M : Type 1} → statement M
 put_spec =

@@ -10,23 +10,23 @@ use Rattle.load.proofs.draws.load_call.Tie as tie
 
 -- Places: the src is drawn; the count is; the kind is
 
-abbrev src_of : tie.After-index-step → tie.After-draw3
+abbrev src_of : tie.After-index_step → tie.After-draw-src
 src_of c = c.before
 
-abbrev count_of : tie.After-draw3 → tie.After-draw2
+abbrev count_of : tie.After-draw-src → tie.After-draw-count
 count_of c = c.before
 
-abbrev kind_of_place : tie.After-draw2 → tie.After-draw
+abbrev kind_of_place : tie.After-draw-count → tie.After-draw-kind
 kind_of_place c = c.before
 
-add_after : tie.Need-overflow-add-after
+add_after : tie.Need-overflow_add-after
 add_after c =
     let count = count_of (src_of c) in
-    let small : count.draw2.result.value ≤ 32 = omega (arith, ap (λ (d : Drawn). d.value) count.draw2.ensures) in
-    omega (arith, c.index_step.ensures, indexed_small (kind_of_place count).draw.result.value _ small)
+    let small : count.draw-count.result.value ≤ 32 = omega (arith, ap (λ (d : Drawn). d.value) count.draw-count.ensures) in
+    omega (arith, c.index_step.ensures, indexed_small (kind_of_place count).draw-kind.result.value _ small)
 
-draw_dst_requires : tie.Need-draw-dst-requires
-draw_dst_requires c κs = omega (arith, ap (λ (d : Drawn). d.value) (src_of c).draw3.ensures)
+draw_dst_requires : tie.Need-draw_dst-dst-requires
+draw_dst_requires c κs = omega (arith, ap (λ (d : Drawn). d.value) (src_of c).draw-src.ensures)
 
 returns : tie.Need-returns
 returns c =
@@ -35,10 +35,10 @@ returns c =
     let count = count_of src in
     let kind = kind_of_place count in
     let a = kind.before.args in
-    let k = kind.draw.ensures in
-    let n = count.draw2.ensures in
-    let r = src.draw3.ensures in
-    let d = c.draw_dst.ensures in (
+    let k = kind.draw-kind.ensures in
+    let n = count.draw-count.ensures in
+    let r = src.draw-src.ensures in
+    let d = c.draw_dst-dst.ensures in (
       call_numbers_lem a.state a.index a.stamp _ _ _ _ k n r d,
       (
         after_dst a.state a.index a.stamp _ _ _ _ k n r d,

@@ -7,4 +7,4 @@ pub address_parts_spec : {M : Type 1} → statement M
 address_parts_spec =
     tie.close
     (tie.spec (λ c κs. search rules) (λ c κs. search rules) (λ c. search rules) (λ c. search rules) (λ c. search rules)
-    (λ c. rw (c.before.halves.ensures, c.words.ensures)))
+    (λ c. rw (c.before.halves-low.ensures, c.words-high.ensures)))

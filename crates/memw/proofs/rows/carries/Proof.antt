@@ -13,13 +13,13 @@ returns c =
     let at_low_word = at_carry.before in
     rw (
       at_carry.carry.ensures,
-      at_carry2.carry2.ensures,
-      at_carry3.carry3.ensures,
-      at_carry4.carry4.ensures,
-      at_carry5.carry5.ensures,
-      c.before.carry6.ensures,
-      c.carry7.ensures,
-      at_low_word.low_word.ensures,
+      at_carry2.carry-2.ensures,
+      at_carry3.carry-3.ensures,
+      at_carry4.carry-4.ensures,
+      at_carry5.carry-5.ensures,
+      c.before.carry-6.ensures,
+      c.carry-7.ensures,
+      at_low_word.low_word-low.ensures,
     )
 
 pub carries_spec : {M : Type 1} → statement M

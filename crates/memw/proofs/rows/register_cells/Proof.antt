@@ -10,7 +10,7 @@ unfolding register_row
 returns c =
     let at_value = c.before.before.before in
     let at_words = at_value.before in
-    rw (at_words.words.ensures, c.bit.ensures)
+    rw (at_words.words-timestamp.ensures, c.bit.ensures)
 
 pub register_cells_spec : {M : Type 1} → statement M
 register_cells_spec =

@@ -27,14 +27,14 @@ returns c =
     let at_first = at_third.before.before in
     words_of
     at_first.before.args.t1
-    at_first.words.ensures
-    at_third.before.words2.ensures
-    at_third.words3.ensures
-    at_fifth.before.words4.ensures
-    at_fifth.words5.ensures
-    at_words6.words6.ensures
-    c.before.words7.ensures
-    c.words8.ensures
+    at_first.words-a.ensures
+    at_third.before.words-b.ensures
+    at_third.words-c.ensures
+    at_fifth.before.words-d.ensures
+    at_fifth.words-e.ensures
+    at_words6.words-f.ensures
+    c.before.words-g.ensures
+    c.words-h.ensures
 
 pub stamp_words_spec : {M : Type 1} → statement M
 stamp_words_spec =

@@ -19,19 +19,19 @@ operation_requires : tie.Need-operation-requires
 operation_requires c κs =
     let at_slice_known = c.before.before.before in
     let start = at_slice_known.before in
-    start.requires.1 ∙ ap record_width c.enum_told.given.1
+    start.requires.1 ∙ ap record_width c.enum_told-1.given.1
 
-operation_requires_2 : tie.Need-operation-requires-2
+operation_requires_2 : tie.Need-operation-requires-in-Aligned
 operation_requires_2 c κs =
     let at_slice_known = c.before.before.before in
     let start = at_slice_known.before in
-    start.requires.1 ∙ ap record_width c.enum-told2.given.1
+    start.requires.1 ∙ ap record_width c.enum_told-in-Aligned-1.given.1
 
-reg_row_requires : tie.Need-reg-row-requires
+reg_row_requires : tie.Need-reg_row-requires
 reg_row_requires c κs =
     let at_slice_known = c.before.before.before in
     let start = at_slice_known.before in
-    start.requires.1 ∙ ap record_width c.enum-told3.given.1
+    start.requires.1 ∙ ap record_width c.enum_told-in-Register-1.given.1
 
 -- the row is as wide as the cells; the general table lends on a part that is the whole row, and what comes back in its place is the row
 part_wide : (row : List ℕ) (n : ℕ) → length row ≡ n → length (take n row) ≡ n
@@ -40,12 +40,12 @@ part_wide row n e = length-take-le n row (omega arith)
 whole : (row cells : List ℕ) (n : ℕ) → length row ≡ n → cells ++ drop n row ≡ cells
 whole row cells n e = ap (λ (r : List ℕ). cells ++ r) (drop_of_length-le row {i = n} (omega arith)) ∙ append-nil cells
 
-part_put_end : tie.Need-slice-bounds-put-end
+part_put_end : tie.Need-slice_bounds-put-end
 part_put_end c =
     let told = c.before.before in
     let known = told.before.before.before in
     let start = known.before in
-    let wide = start.requires.0 ∙ ap row_width told.enum_told.given.1 in
+    let wide = start.requires.0 ∙ ap row_width told.enum_told-1.given.1 in
     omega arith
 
 put_requires : tie.Need-put-requires
@@ -54,50 +54,50 @@ put_requires c κs =
     let told = at_memw_cells.before.before in
     let known = told.before.before.before in
     let start = known.before in
-    let wide = start.requires.0 ∙ ap row_width told.enum_told.given.1 in
-    part_wide start.args.row.now (row_width General) wide ∙ sym (ap length at_memw_cells.memw_cells.ensures ∙ memw_wide _)
+    let wide = start.requires.0 ∙ ap row_width told.enum_told-1.given.1 in
+    part_wide start.args.row-1.now (row_width General) wide ∙ sym (ap length at_memw_cells.memw_cells-cells.ensures ∙ memw_wide _)
 
-put_requires_2 : tie.Need-put-requires-2
+put_requires_2 : tie.Need-put-requires-in-Aligned
 put_requires_2 c κs =
     let at_aligned_cells = c.before.before in
     let told = at_aligned_cells.before.before in
     let known = told.before.before.before in
-    known.before.requires.0 ∙ ap row_width told.enum-told2.given.1
-    ∙ sym (ap length at_aligned_cells.aligned_cells.ensures ∙ aligned_wide _)
+    known.before.requires.0 ∙ ap row_width told.enum_told-in-Aligned-1.given.1
+    ∙ sym (ap length at_aligned_cells.aligned_cells-cells.ensures ∙ aligned_wide _)
 
-put_requires_3 : tie.Need-put-requires-3
+put_requires_3 : tie.Need-put-requires-in-Register
 put_requires_3 c κs =
     let at_register_cells = c.before.before in
     let told = at_register_cells.before.before in
     let known = told.before.before.before in
-    known.before.requires.0 ∙ ap row_width told.enum-told3.given.1
-    ∙ sym (ap length at_register_cells.register_cells.ensures ∙ register_wide _)
+    known.before.requires.0 ∙ ap row_width told.enum_told-in-Register-1.given.1
+    ∙ sym (ap length at_register_cells.register_cells-cells.ensures ∙ register_wide _)
 
-returns : tie.Need-returns
+returns : tie.Need-returns-in-General
 returns c =
     let at_put = c.before.before in
     let made = at_put.before.before.before in
     let told = made.before.before in
     let known = told.before.before.before in
     let start = known.before in
-    let wide = start.requires.0 ∙ ap row_width told.enum_told.given.1 in
-    rw told.enum_told.given.1
-    (whole start.args.row.now _ (row_width General) wide
-    ∙ at_put.put.ensures ∙ made.memw_cells.ensures ∙ ap memw_row made.before.operation.ensures)
+    let wide = start.requires.0 ∙ ap row_width told.enum_told-1.given.1 in
+    rw told.enum_told-1.given.1
+    (whole start.args.row-1.now _ (row_width General) wide
+    ∙ at_put.put.ensures ∙ made.memw_cells-cells.ensures ∙ ap memw_row made.before.operation.ensures)
 
-returns_2 : tie.Need-returns-2
+returns_2 : tie.Need-returns-in-Aligned
 returns_2 c =
     let at_put2 = c.before.before in
     let made = at_put2.before.before.before in
-    rw made.before.before.enum-told2.given.1
-    (at_put2.put2.ensures ∙ made.aligned_cells.ensures ∙ ap aligned_row made.before.operation2.ensures)
+    rw made.before.before.enum_told-in-Aligned-1.given.1
+    (at_put2.put-in-Aligned.ensures ∙ made.aligned_cells-cells.ensures ∙ ap aligned_row made.before.operation-in-Aligned.ensures)
 
-returns_3 : tie.Need-returns-3
+returns_3 : tie.Need-returns-in-Register
 returns_3 c =
     let at_put3 = c.before.before in
     let made = at_put3.before.before.before in
-    rw made.before.before.enum-told3.given.1
-    (at_put3.put3.ensures ∙ made.register_cells.ensures ∙ ap register_row made.before.reg_row.ensures)
+    rw made.before.before.enum_told-in-Register-1.given.1
+    (at_put3.put-in-Register.ensures ∙ made.register_cells-cells.ensures ∙ ap register_row made.before.reg_row.ensures)
 
 pub write_row_spec : {M : Type 1} → statement M
 write_row_spec =

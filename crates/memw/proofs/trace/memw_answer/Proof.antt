@@ -7,10 +7,10 @@ use Rattle.memw.proofs.trace.memw_answer.Statement.{statement}
 use Rattle.memw.proofs.trace.memw_answer.Tie as tie
 
 -- the entry, seen from the row width
-abbrev start_of : tie.After-row-width → tie.Start
+abbrev start_of : tie.After-row_width → tie.Start
 start_of c = c.before.before.before
 
-kind_answer_requires : tie.Need-kind-answer-requires
+kind_answer_requires : tie.Need-kind_answer-requires
 kind_answer_requires c κs = ((start_of c).requires, rw c.row_width.ensures (row_width_bound (start_of c).args.t))
 
 returns : tie.Need-returns

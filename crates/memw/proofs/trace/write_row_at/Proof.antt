@@ -15,27 +15,27 @@ use Rattle.memw.proofs.trace.write_row_at.Tie as tie
 
 -- Places, seen from later ones
 
-abbrev to_start : tie.After-write-row-arg → tie.Start
+abbrev to_start : tie.After-write_row-arg-1 → tie.Start
 to_start c =
     let at_shared_slice_known = c.before.before.before in
     at_shared_slice_known.before
 
-record_at_requires : tie.Need-record-at-requires
+record_at_requires : tie.Need-record_at-requires
 record_at_requires c κs =
     let entry = to_start c in
-    rw entry.pre.0 (omega (arith, row_within (record_width entry.args.t) entry.args.k entry.args.n c.before.if1.true))
+    rw entry.pre.0 (omega (arith, row_within (record_width entry.args.t) entry.args.k entry.args.n c.before.if-k-n.true))
 
-write_row_requires : tie.Need-write-row-requires
+write_row_requires : tie.Need-write_row-requires
 write_row_requires c κs =
     let at_if1 = c.before.before in
     let entry = at_if1.before.before.before in
     let w = record_width entry.args.t in
     let records = entry.args.records.now in
-    let ends = row_within w entry.args.k entry.args.n at_if1.if1.true in
+    let ends = row_within w entry.args.k entry.args.n at_if1.if-k-n.true in
     let read = c.record_at.ensures ∙ ap (λ (w : ℕ). record_at w records entry.args.k) entry.requires.0 in
     (entry.requires.3, ap length read ∙ record_length w records entry.args.k (omega arith))
 
-returns : tie.Need-returns
+returns : tie.Need-returns-then-k-n
 returns c =
     let at_write_row = c.before.before in
     let at_record_at = at_write_row.before in
@@ -46,7 +46,7 @@ returns c =
     let read = at_record_at.record_at.ensures ∙ ap (λ (w : ℕ). record_at w records args.k) entry.pre.0 in
     at_write_row.write_row.ensures ∙ ap (record_row args.t) read ∙ sym (row_of_record args.t records args.k (omega arith))
 
-returns_2 : tie.Need-returns-2
+returns_2 : tie.Need-returns-else-k-n
 returns_2 c =
     let at_clear = c.before.before in
     let at_slice_known = at_clear.before.before.before in

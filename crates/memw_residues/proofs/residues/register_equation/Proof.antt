@@ -11,7 +11,7 @@ use Rattle.memw_residues.proofs.residues.register_equation.Tie as tie
 two : (i : ℕ) → i < 3 → (i ≡ 0 → ⊥) → (i ≡ 1 → ⊥) → i ≡ 2
 two i h a b = omega arith
 
-returns_3 : tie.Need-returns-3
+returns_3 : tie.Need-returns-in_default
 unfolding register_residue
 returns_3 c =
     let arm = c.before.before.before in
@@ -29,5 +29,5 @@ register_equation_spec =
     (λ c κs. let arm = c.before.before in
     let each = arm.before.before.requires.0.each in (each _, each _))
     (λ c. rw c.before.match.keys1 c.bit.ensures)
-    (λ c. rw c.before.match.keys2 c.bit2.ensures)
+    (λ c. rw c.before.match.keys2 c.bit-in-1.ensures)
     returns_3)

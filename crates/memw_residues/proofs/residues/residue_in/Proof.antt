@@ -14,29 +14,29 @@ use Rattle.memw_residues.proofs.residues.residue_in.Statement.{statement}
 use Rattle.memw_residues.proofs.residues.residue_in.Tie as tie
 
 -- Places: the entry, the count and the width at hand
-abbrev to_count : tie.After-row-verdict → tie.After-residue-count
+abbrev to_count : tie.After-row_verdict → tie.After-residue_count
 to_count c = c.before.before
 
-abbrev to_start : tie.After-row-verdict → tie.Start
+abbrev to_start : tie.After-row_verdict → tie.Start
 to_start c = (to_count c).before.before
 
 -- what was found is what the definition finds
-found : (c : tie.After-row-verdict) → let a = (to_start c).args in
+found : (c : tie.After-row_verdict) → let a = (to_start c).args in
     c.row_verdict.result ≡ row_verdict (ltb a.number (residue_count a.t)) (row_width a.t) a.row.now
 found c =
     let a = (to_start c).args in
     c.row_verdict.ensures
     ∙ (λ i. row_verdict (ltb a.number ((to_count c).residue_count.ensures i)) (c.before.row_width.ensures i) a.row.now)
 
-fine_row : (c : tie.After-enum-told) → let a = (to_start c.before.before).args in
+fine_row : (c : tie.In-Fine) → let a = (to_start c.before.before).args in
     Judged (ltb a.number (residue_count a.t)) (row_width a.t) a.row.now
-fine_row c = is_fine _ _ _ (sym (found c.before.before) ∙ c.enum_told.given.1)
+fine_row c = is_fine _ _ _ (sym (found c.before.before) ∙ c.enum_told-1.given.1)
 
-returns : tie.Need-returns
+returns : tie.Need-returns-in-Fine
 unfolding memw_residue_answer
 returns c =
     let told = c.before in
-    ap Residue c.equation.ensures ∙ answer_of _ _ (found told.before.before) told.enum_told.given.1
+    ap Residue c.equation.ensures ∙ answer_of _ _ (found told.before.before) told.enum_told-1.given.1
 
 pub residue_in_spec : {M : Type 1} → statement M
 unfolding memw_residue_answer
@@ -47,4 +47,4 @@ residue_in_spec =
     (λ c κs. ((fine_row c).row_is, ltb-true _ _ (fine_row c).is_inside))
     (λ c. search rules)
     returns
-    (λ c. let told = c.before in answer_of _ _ (found told.before.before) told.why.given.1))
+    (λ c. let told = c.before in answer_of _ _ (found told.before.before) told.why-1.given.1))

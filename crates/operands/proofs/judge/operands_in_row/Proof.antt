@@ -11,4 +11,4 @@ operands_in_row_spec =
     tie.close
     (tie.spec
     (λ c κs. search rules) (λ c κs. search rules) (λ c κs. search rules)
-    (λ c. λ i. c.before.before.operand_in_row.ensures i && c.before.operand-in-row2.ensures i && c.operand-in-row3.ensures i))
+    (λ c. λ i. c.before.before.operand_in_row.ensures i && c.before.operand_in_row-2.ensures i && c.operand_in_row-3.ensures i))

@@ -11,22 +11,22 @@ use Rattle.operands.proofs.Operands.{sum_many, sum_miss, sum_all}
 use Rattle.operands.proofs.judge.sum_in_row.Statement.{statement}
 use Rattle.operands.proofs.judge.sum_in_row.Tie as tie
 
-abbrev invariant_loop : tie.invariant-loop
+abbrev invariant_loop : tie.invariant-loop-k
 invariant_loop n terms k₀ k = (k ≤ n) × (every (λ i. term_in_row (term_at terms i)) k ≡ true)
 
-abbrev decreases_loop : tie.decreases-loop
+abbrev decreases_loop : tie.decreases-loop-k
 decreases_loop n terms k₀ k = n - k
 
-returns_2 : tie.Need-returns-2 invariant_loop decreases_loop
+returns_2 : tie.Need-returns-then-not-term_in_row invariant_loop decreases_loop
 returns_2 c =
-    sum_miss _ _ _ c.before.before.before.loop-test.true
-    (sym c.before.term_in_row.ensures ∙ not-true _ c.if2.true)
+    sum_miss _ _ _ c.before.before.before.loop-k-test.true
+    (sym c.before.term_in_row.ensures ∙ not-true _ c.if-not-term_in_row.true)
 
-loop_again : tie.Need-loop-preserved invariant_loop decreases_loop
+loop_again : tie.Need-loop-k-preserved invariant_loop decreases_loop
 loop_again c =
     let at_term = c.before in
-    let all = at_term.before.before.before.loop.invariant.1 in
-    (omega arith, every_next _ _ all (sym at_term.term_in_row.ensures ∙ not-false _ c.if2.false))
+    let all = at_term.before.before.before.loop-k.invariant.1 in
+    (omega arith, every_next _ _ all (sym at_term.term_in_row.ensures ∙ not-false _ c.if-not-term_in_row.false))
 
 pub sum_in_row_spec : {M : Type 1} → statement M
 sum_in_row_spec =
@@ -40,4 +40,4 @@ sum_in_row_spec =
     returns_2
     (λ c. search rules) (λ c. search rules)
     loop_again
-    (λ c. sum_all _ _ _ (omega arith) (omega arith) c.before.loop.invariant.1))
+    (λ c. sum_all _ _ _ (omega arith) (omega arith) c.before.loop-k.invariant.1))

@@ -6,10 +6,10 @@ use Rattle.operands.proofs.value.carries.Statement.{statement}
 use Rattle.operands.proofs.value.carries.Tie as tie
 
 -- Places: the entry, from where the low values and the low carry are at hand
-abbrev from_values : tie.After-low-value2 → tie.Start
+abbrev from_values : tie.After-low_value-2 → tie.Start
 from_values c = c.before.before.before
 
-abbrev from_carry : tie.After-carry-low → tie.Start
+abbrev from_carry : tie.After-carry_low-low → tie.Start
 from_carry c = from_values c.before.before
 
 in_row : (c : tie.Start) → AllInRow c.args.lhs c.args.rhs c.args.sum
@@ -21,14 +21,14 @@ returns c =
     let at_low = at_high2.before.before in
     let at_low2 = at_low.before.before in
     let c0 =
-    carry_lo_lem _ _ _ _ at_low.carry_low.ensures.0 at_low2.before.low_value.ensures.0
-    at_low2.low-value2.ensures.0 at_low.before.low-value3.ensures.0
+    carry_lo_lem _ _ _ _ at_low.carry_low-low.ensures.0 at_low2.before.low_value.ensures.0
+    at_low2.low_value-2.ensures.0 at_low.before.low_value-3.ensures.0
     in
     let c1 =
-    carry_hi_lem _ _ _ _ c.carry_high.ensures.0 at_high2.before.high_value.ensures.0
-    at_high2.high-value2.ensures.0 c0 c.before.high-value3.ensures.0
+    carry_hi_lem _ _ _ _ c.carry_high-high.ensures.0 at_high2.before.high_value.ensures.0
+    at_high2.high_value-2.ensures.0 c0 c.before.high_value-3.ensures.0
     in
-    ((c0, at_low.carry_low.ensures.1), (c1, c.carry_high.ensures.1))
+    ((c0, at_low.carry_low-low.ensures.1), (c1, c.carry_high-high.ensures.1))
 
 pub carries_spec : {M : Type 1} → statement M
 carries_spec =

@@ -7,10 +7,10 @@ use Rattle.operands.proofs.value.pair_values.Tie as tie
 returns : tie.Need-returns
 returns c =
     let at_gated = c.before.before in
-    let carries = at_gated.before.before.carries.ensures in (
-      residue_lo_lem _ _ _ _ _ carries.0.0 at_gated.before.is_bit.ensures.0 at_gated.gated.ensures.0,
+    let carries = at_gated.before.before.carries-c.ensures in (
+      residue_lo_lem _ _ _ _ _ carries.0.0 at_gated.before.is_bit.ensures.0 at_gated.gated-low.ensures.0,
       (
-        residue_hi_lem _ _ _ _ _ carries.1.0 c.before.is-bit2.ensures.0 c.gated2.ensures.0,
+        residue_hi_lem _ _ _ _ _ carries.1.0 c.before.is_bit-2.ensures.0 c.gated-high.ensures.0,
         carries.1.0,
       ),
     )

@@ -14,33 +14,33 @@ use Rattle.operands.specs.Operands.{signed_p, term_value, term_in_row}
 use Rattle.operands.proofs.value.term_value.Statement.{statement}
 use Rattle.operands.proofs.value.term_value.Tie as tie
 
-back : (c : tie.After-known-told2) → to_z w64 (of_z w64 c.before.t2.given.0.0) ≡ c.before.t2.given.0.0
-back c = to_z-of_z {w = w64} {z = c.before.t2.given.0.0} (record { sfits = search rules })
+back : (c : tie.In-Column) → to_z w64 (of_z w64 c.before.t-in-Column-1.given.0.0) ≡ c.before.t-in-Column-1.given.0.0
+back c = to_z-of_z {w = w64} {z = c.before.t-in-Column-1.given.0.0} (record { sfits = search rules })
 
-column : (c : tie.After-known-told2) → c.before.t2.given.0.1.0 < COLUMNS
+column : (c : tie.In-Column) → c.before.t-in-Column-1.given.0.1.0 < COLUMNS
 unfolding term_in_row
 column c =
     let told = c.before in
-    ltb-true _ COLUMNS (sym (ap term_in_row told.t2.given.1) ∙ told.before.before.before.requires.0)
+    ltb-true _ COLUMNS (sym (ap term_in_row told.t-in-Column-1.given.1) ∙ told.before.before.before.requires.0)
 
-returns : tie.Need-returns
+returns : tie.Need-returns-in-Constant
 unfolding term_value
 returns c =
-    let told = c.before.before.t.given in
+    let told = c.before.before.t-1.given in
     let e : c.from_signed.result ≡ signed_p told.0.0 =
     c.from_signed.ensures.0 ∙ ap signed_p (to_z-of_z {w = w64} {z = told.0.0} (record { sfits = search rules }))
     in
     (e ∙ sym (ap (term_value _) told.1), c.from_signed.ensures.1)
 
-returns_2 : tie.Need-returns-2
+returns_2 : tie.Need-returns-in-Column
 unfolding term_value
 returns_2 c =
     let at_signed = c.before.before in
     let told = at_signed.before.before in
-    let y = at told.before.before.before.args.row.now told.t2.given.0.1.0 in (
+    let y = at told.before.before.before.args.row.now told.t-in-Column-1.given.0.1.0 in (
       c.mul.ensures.0
-          ∙ ap (λ (x : ℕ). mul_p x y) (at_signed.from-signed2.ensures.0 ∙ ap signed_p (back at_signed.before))
-          ∙ sym (ap (term_value _) told.t2.given.1),
+          ∙ ap (λ (x : ℕ). mul_p x y) (at_signed.from_signed-in-Column.ensures.0 ∙ ap signed_p (back at_signed.before))
+          ∙ sym (ap (term_value _) told.t-in-Column-1.given.1),
       c.mul.ensures.1,
     )
 

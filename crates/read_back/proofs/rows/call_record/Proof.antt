@@ -25,4 +25,4 @@ call_record_spec =
     (λ c κs. search (rules, count_words, in_range))
     (λ c.
     let at_src = c.before.before in
-    rw (c.words-at4.ensures, c.before.words-at3.ensures, at_src.words-at2.ensures, at_src.before.words_at.ensures)))
+    rw (c.words_at-4.ensures, c.before.words_at-3.ensures, at_src.words_at-2.ensures, at_src.before.words_at.ensures)))

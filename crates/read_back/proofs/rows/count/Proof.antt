@@ -15,19 +15,19 @@ use Rattle.read_back.proofs.Walk.{read_at, row_counted, all_counted}
 use Rattle.read_back.proofs.rows.count.Statement.{statement}
 use Rattle.read_back.proofs.rows.count.Tie as tie
 
-abbrev invariant_loop : tie.invariant-loop
+abbrev invariant_loop : tie.invariant-loop-k
 invariant_loop rows n ops₀ calls₀ k₀ ops calls k = (k ≤ n) × (ops ≡ counted (read_at false rows) k) × (calls ≡ counted (read_at true rows) k)
 
-abbrev decreases_loop : tie.decreases-loop
+abbrev decreases_loop : tie.decreases-loop-k
 decreases_loop rows n ops₀ calls₀ k₀ ops calls k = n - k
 
 -- Places: the loop's top and the entry; row k in hand, its record counted
 
 abbrev Top : Type 0
-Top = tie.At-loop invariant_loop decreases_loop
+Top = tie.At-loop-k invariant_loop decreases_loop
 
 abbrev Row : Type 0
-Row = tie.After-record-at invariant_loop decreases_loop
+Row = tie.After-record_at-row invariant_loop decreases_loop
 
 abbrev rows_of : Top → List ℕ
 rows_of c = c.before.before.args.rows.now
@@ -35,11 +35,11 @@ rows_of c = c.before.before.args.rows.now
 abbrev top_of : Row → Top
 top_of c = c.before.before
 
-abbrev row_of_lem : tie.After-one-more invariant_loop decreases_loop → Row
+abbrev row_of_lem : tie.After-one_more-ops invariant_loop decreases_loop → Row
 row_of_lem c = c.before.before
 
-wide : (c : Row) → length c.record_at.result.now ≡ COLUMNS
-wide c = ap length c.record_at.ensures ∙ row_length (rows_of (top_of c)) (top_of c).loop.k (omega arith)
+wide : (c : Row) → length c.record_at-row.result.now ≡ COLUMNS
+wide c = ap length c.record_at-row.ensures ∙ row_length (rows_of (top_of c)) (top_of c).loop-k.k (omega arith)
 
 pub count_spec : {M : Type 1} → statement M
 count_spec =
@@ -52,11 +52,11 @@ count_spec =
     (λ c κs. wide c)
     (λ c κs.
     let top = top_of c.before in
-    omega (arith, top.loop.inv.1, counted_le (read_at false (rows_of top)) top.loop.k))
+    omega (arith, top.loop-k.inv.1, counted_le (read_at false (rows_of top)) top.loop-k.k))
     (λ c κs. wide (row_of_lem c))
     (λ c κs.
     let top = top_of (row_of_lem c.before) in
-    omega (arith, top.loop.inv.2, counted_le (read_at true (rows_of top)) top.loop.k))
+    omega (arith, top.loop-k.inv.2, counted_le (read_at true (rows_of top)) top.loop-k.k))
     (λ c. search rules) (λ c. search rules)
     (λ c.
     let first = c.before.before in
@@ -64,13 +64,13 @@ count_spec =
     let top = top_of row in
     let fit = top.before.before.pre in (
       omega arith,
-      row_counted (rows_of top) fit false top.loop.k _ row.record_at.ensures top.loop.ops _ top.loop.inv.1
-          (first.one_more.ensures ∙ ap (λ b. one_more b top.loop.ops) first.before.is_read.ensures),
-      row_counted (rows_of top) fit true top.loop.k _ row.record_at.ensures top.loop.calls _ top.loop.inv.2
-          (c.one-more2.ensures ∙ ap (λ b. one_more b top.loop.calls) c.before.is-read2.ensures),
+      row_counted (rows_of top) fit false top.loop-k.k _ row.record_at-row.ensures top.loop-k.ops _ top.loop-k.inv.1
+          (first.one_more-ops.ensures ∙ ap (λ b. one_more b top.loop-k.ops) first.before.is_read.ensures),
+      row_counted (rows_of top) fit true top.loop-k.k _ row.record_at-row.ensures top.loop-k.calls _ top.loop-k.inv.2
+          (c.one_more-calls.ensures ∙ ap (λ b. one_more b top.loop-k.calls) c.before.is_read-in-loop-k.ensures),
     ))
     (λ c.
-    let at = c.before.loop in
+    let at = c.before.loop-k in
     let l = rows_of c.before in
     let fit = c.before.before.before.requires in
     let whole : at.k ≡ length l / COLUMNS = omega arith in

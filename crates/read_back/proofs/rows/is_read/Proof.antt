@@ -8,6 +8,6 @@ is_read_spec =
     tie.close
     (tie.spec
     (λ c. search rules) (λ c. search rules)
-    (λ c. rw c.before.before.if1.true)
+    (λ c. rw c.before.before.if-calls.true)
     (λ c. search rules)
-    (λ c. rw c.before.if1.false))
+    (λ c. rw c.before.if-calls.false))

@@ -24,4 +24,4 @@ op_record_spec =
     let at_known9 = c.before.before.before in
     let at_known6 = at_known9.before.before.before in
     let at_known3 = at_known6.before.before.before in
-    rw at_known3.before.before.call_record.ensures))
+    rw at_known3.before.before.call_record-call.ensures))

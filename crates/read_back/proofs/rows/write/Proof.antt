@@ -15,20 +15,20 @@ use Rattle.read_back.proofs.Read.{Holds, holds_of}
 use Rattle.read_back.proofs.rows.write.Statement.{statement}
 use Rattle.read_back.proofs.rows.write.Tie as tie
 
-abbrev invariant_loop : tie.invariant-loop
+abbrev invariant_loop : tie.invariant-loop-k
 invariant_loop rows ops₀ calls₀ n o₀ c₀ k₀ ops calls o c k =
     (k ≤ n) × Filled (read_at false rows) (part_at false rows) ops₀ ops o k × Filled (read_at true rows) (part_at true rows) calls₀ calls c k
 
-abbrev decreases_loop : tie.decreases-loop
+abbrev decreases_loop : tie.decreases-loop-k
 decreases_loop rows ops₀ calls₀ n o₀ c₀ k₀ ops calls o c k = n - k
 
 -- Places: the loop's top and the entry; row k in hand, its record put
 
 abbrev Top : Type 0
-Top = tie.At-loop invariant_loop decreases_loop
+Top = tie.At-loop-k invariant_loop decreases_loop
 
 abbrev Row : Type 0
-Row = tie.After-record-at invariant_loop decreases_loop
+Row = tie.After-record_at-row invariant_loop decreases_loop
 
 abbrev entry_of : Top → tie.Start invariant_loop decreases_loop
 entry_of c =
@@ -41,26 +41,26 @@ rows_of c = (entry_of c).args.rows.now
 abbrev top_of : Row → Top
 top_of c = c.before.before
 
-abbrev row_of_lem : tie.After-put-row invariant_loop decreases_loop → Row
+abbrev row_of_lem : tie.After-put_row-o invariant_loop decreases_loop → Row
 row_of_lem c = c.before.before
 
-abbrev put_of : tie.After-put-row-arg2 invariant_loop decreases_loop → tie.After-put-row invariant_loop decreases_loop
+abbrev put_of : tie.After-put_row-arg-in-loop-k-1 invariant_loop decreases_loop → tie.After-put_row-o invariant_loop decreases_loop
 put_of c = c.before.before.before
 
-holds : (c : Top) → let a = (entry_of c).args in Holds (rows_of c) (length a.ops.now) (length a.calls.now)
+holds : (c : Top) → let a = (entry_of c).args in Holds (rows_of c) (length a.ops-1.now) (length a.calls-1.now)
 holds c = holds_of _ _ _ (entry_of c).requires.1
 
 module _ (c : Row) where
-  within : (top_of c).loop.k < length (rows_of (top_of c)) / COLUMNS
+  within : (top_of c).loop-k.k < length (rows_of (top_of c)) / COLUMNS
   within = omega arith
 
-  wide : length c.record_at.result.now ≡ COLUMNS
-  wide = ap length c.record_at.ensures ∙ row_length (rows_of (top_of c)) (top_of c).loop.k within
+  wide : length c.record_at-row.result.now ≡ COLUMNS
+  wide = ap length c.record_at-row.ensures ∙ row_length (rows_of (top_of c)) (top_of c).loop-k.k within
 
-  caps : Caps c.record_at.result.now
+  caps : Caps c.record_at-row.result.now
   caps =
-      subst (λ (r : List ℕ). Caps r) (sym c.record_at.ensures)
-      (row_caps (rows_of (top_of c)) (entry_of (top_of c)).pre.0 (top_of c).loop.k within)
+      subst (λ (r : List ℕ). Caps r) (sym c.record_at-row.ensures)
+      (row_caps (rows_of (top_of c)) (entry_of (top_of c)).pre.0 (top_of c).loop-k.k within)
 
 pub write_spec : {M : Type 1} → statement M
 write_spec =
@@ -74,13 +74,13 @@ write_spec =
     let row = c.before in
     let top = top_of row in (
       (wide row, caps row),
-      row_room (rows_of top) (entry_of top).pre.0 false _ _ _ _ top.loop.inv.1 (within row) (holds top).holds_ops _ row.record_at.ensures,
+      row_room (rows_of top) (entry_of top).pre.0 false _ _ _ _ top.loop-k.inv.1 (within row) (holds top).holds_ops _ row.record_at-row.ensures,
     ))
     (λ c κs.
     let row = row_of_lem (put_of c) in
     let top = top_of row in (
       (wide row, caps row),
-      row_room (rows_of top) (entry_of top).pre.0 true _ _ _ _ top.loop.inv.2 (within row) (holds top).holds_calls _ row.record_at.ensures,
+      row_room (rows_of top) (entry_of top).pre.0 true _ _ _ _ top.loop-k.inv.2 (within row) (holds top).holds_calls _ row.record_at-row.ensures,
     ))
     (λ c. search rules) (λ c. search rules)
     (λ c.
@@ -89,15 +89,15 @@ write_spec =
     let row = row_of_lem ops in
     let top = top_of row in
     let fit = (entry_of top).pre.0 in
-    let is = row.record_at.ensures in (
+    let is = row.record_at-row.ensures in (
       omega arith,
-      row_written (rows_of top) fit false _ _ _ _ top.loop.inv.1 _ is _ _ ops.put_row.ensures.0 ops.put_row.ensures.1,
-      row_written (rows_of top) fit true _ _ _ _ top.loop.inv.2 _ is _ _ calls.put-row2.ensures.0 calls.put-row2.ensures.1,
+      row_written (rows_of top) fit false _ _ _ _ top.loop-k.inv.1 _ is _ _ ops.put_row-o.ensures.0 ops.put_row-o.ensures.1,
+      row_written (rows_of top) fit true _ _ _ _ top.loop-k.inv.2 _ is _ _ calls.put_row-c.ensures.0 calls.put_row-c.ensures.1,
     ))
-    (λ c. c.before.loop.invariant.1.same)
-    (λ c. c.before.loop.invariant.2.same)
+    (λ c. c.before.loop-k.invariant.1.same)
+    (λ c. c.before.loop-k.invariant.2.same)
     (λ c.
-    let at = c.before.loop in
+    let at = c.before.loop-k in
     let l = rows_of c.before in
     let fit = (entry_of c.before).pre.0 in
     let whole : at.k ≡ length l / COLUMNS = omega arith in (

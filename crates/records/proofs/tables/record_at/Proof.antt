@@ -10,14 +10,14 @@ use Rattle.records.proofs.Records.{record_part}
 use Rattle.records.proofs.tables.record_at.Statement.{statement}
 use Rattle.records.proofs.tables.record_at.Tie as tie
 
-returns : tie.Need-returns
+returns : tie.Need-returns-then-list-start
 returns c =
     let a = c.before.before.args in
     let list = a.list.now in
     let rest = drop (a.w * a.k) list in
     take_all (length list - a.w * a.k) rest (rw length-drop (omega arith)) ∙ sym (take_all a.w rest (rw length-drop (omega arith)))
 
-returns_2 : tie.Need-returns-2
+returns_2 : tie.Need-returns-then-list-start
 returns_2 c =
     let a = c.before.before.args in
     record_part a.w a.list.now a.k

@@ -5,16 +5,16 @@ use Rattle.records.proofs.RowCount.{least_unique, row_count_least, zeros_short, 
 use Rattle.records.proofs.tables.row_count.Statement.{statement}
 use Rattle.records.proofs.tables.row_count.Tie as tie
 
-returns : tie.Need-returns
+returns : tie.Need-returns-then-n-le4
 returns c = least_unique (four_least _ (search rules)) (row_count_least _ (search rules))
 
-sub_result : tie.Need-overflow-sub-result
+sub_result : tie.Need-overflow_sub-result
 sub_result c = leading_le 64 _
 
-shl_result : tie.Need-overflow-shl-result
+shl_result : tie.Need-overflow_shl-result
 shl_result c = zeros_short _ (search rules)
 
-returns_2 : tie.Need-returns-2
+returns_2 : tie.Need-returns-then-n-le4
 returns_2 c =
     least_unique (zeros_least c.before.args.n (search rules) (search rules)) (row_count_least _ (search rules))
 

@@ -13,32 +13,32 @@ use Rattle.records.proofs.Table.{answer_bad, answer_short, answer_made}
 use Rattle.records.proofs.tables.table_answer.Statement.{statement}
 use Rattle.records.proofs.tables.table_answer.Tie as tie
 
-returns : tie.Need-returns
-returns c limit allowed = sym (answer_bad limit _ _ _ _ allowed c.if1.true)
+returns : tie.Need-returns-then-bad-n
+returns c limit allowed = sym (answer_bad limit _ _ _ _ allowed c.if-bad-n.true)
 
-mul_if2 : tie.Need-overflow-mul-if2
+mul_if2 : tie.Need-overflow_mul-v
 mul_if2 c =
     let start = c.before.before in
-    let few : c.row_count.result ≤ 2 ^ 20 =
-    rw c.row_count.ensures (row_count_le start.args.n 20 (omega arith) (omega arith) (lit≤ tt)) in
-    let small : start.args.v * c.row_count.result ≤ 64 * 2 ^ 20 = mul-le-mul start.requires.1 few in
+    let few : c.row_count-rows.result ≤ 2 ^ 20 =
+    rw c.row_count-rows.ensures (row_count_le start.args.n 20 (omega arith) (omega arith) (lit≤ tt)) in
+    let small : start.args.v * c.row_count-rows.result ≤ 64 * 2 ^ 20 = mul-le-mul start.requires.1 few in
     omega arith
 
-returns_2 : tie.Need-returns-2
+returns_2 : tie.Need-returns-then-room-v
 returns_2 c limit allowed =
     let at_if1 = c.before.before in
     let start = at_if1.before in
     let room : start.args.room < start.args.v * row_count start.args.n =
-    rw c.before.row_count.ensures at c.if2.true in
-    sym (answer_short limit _ _ _ _ allowed at_if1.if1.false room)
+    rw c.before.row_count-rows.ensures at c.if-room-v.true in
+    sym (answer_short limit _ _ _ _ allowed at_if1.if-bad-n.false room)
 
-returns_3 : tie.Need-returns-3
+returns_3 : tie.Need-returns-then-bad-n
 returns_3 c limit allowed =
     let at_if1 = c.before.before in
     let start = at_if1.before in
     let room : start.args.v * row_count start.args.n ≤ start.args.room =
-    rw c.before.row_count.ensures at c.if2.false in
-    ap Made c.before.row_count.ensures ∙ sym (answer_made limit _ _ _ _ allowed at_if1.if1.false room)
+    rw c.before.row_count-rows.ensures at c.if-room-v.false in
+    ap Made c.before.row_count-rows.ensures ∙ sym (answer_made limit _ _ _ _ allowed at_if1.if-bad-n.false room)
 
 pub table_answer_spec : {M : Type 1} → statement M
 table_answer_spec = tie.close (tie.spec returns (λ c κs. search rules) mul_if2 returns_2 returns_3)

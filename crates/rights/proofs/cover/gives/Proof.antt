@@ -9,39 +9,39 @@ use Rattle.rights.proofs.cover.gives.Statement.{statement}
 use Rattle.rights.proofs.cover.gives.Tie as tie
 
 -- the entry, seen from the entry's party
-abbrev start_of : tie.After-number → tie.Start
+abbrev start_of : tie.After-number-owner → tie.Start
 start_of c = c.before.before
 
-returns : tie.Need-returns
+returns : tie.Need-returns-then-owner-party
 returns c =
     let a = (start_of c.before).args in
-    other_party a.party a.right a.x a.entry.now (λ q. c.if1.true (c.before.number.ensures ∙ q))
+    other_party a.party a.right a.x a.entry.now (λ q. c.if-owner-party.true (c.before.number-owner.ensures ∙ q))
 
-returns_2 : tie.Need-returns-2
+returns_2 : tie.Need-returns-then-number-ne1
 returns_2 c =
     let own_at = c.before.before in
     let a = (start_of own_at.before).args in
-    no_right a.party a.right a.x a.entry.now (sym own_at.before.number.ensures ∙ own_at.if1.false)
-    (λ q. c.if2.true (c.before.number2.ensures ∙ q))
+    no_right a.party a.right a.x a.entry.now (sym own_at.before.number-owner.ensures ∙ own_at.if-owner-party.false)
+    (λ q. c.if-number-ne1.true (c.before.number-owner.ensures ∙ q))
 
-returns_3 : tie.Need-returns-3
+returns_3 : tie.Need-returns-then-x-start
 returns_3 c =
     let has_at = c.before.before in
     let own_at = has_at.before.before in
     let a = (start_of own_at.before).args in
-    starts_above a.party a.right a.x a.entry.now (sym own_at.before.number.ensures ∙ own_at.if1.false)
-    (sym has_at.before.number2.ensures ∙ has_at.if2.false) (omega (arith, c.before.number3.ensures))
+    starts_above a.party a.right a.x a.entry.now (sym own_at.before.number-owner.ensures ∙ own_at.if-owner-party.false)
+    (sym has_at.before.number-owner.ensures ∙ has_at.if-number-ne1.false) (omega (arith, c.before.number-start.ensures))
 
-returns_4 : tie.Need-returns-4
+returns_4 : tie.Need-returns-then-owner-party
 returns_4 c =
     let from_at = c.before in
     let has_at = from_at.before.before in
     let own_at = has_at.before.before in
     let a = (start_of own_at.before).args in
-    let start = from_at.before.number3.ensures in
-    (λ i. ltb (a.x - start i) (c.number4.ensures i))
-    ∙ by_difference a.party a.right a.x a.entry.now (sym own_at.before.number.ensures ∙ own_at.if1.false)
-    (sym has_at.before.number2.ensures ∙ has_at.if2.false) (omega (arith, start))
+    let start = from_at.before.number-start.ensures in
+    (λ i. ltb (a.x - start i) (c.number-2.ensures i))
+    ∙ by_difference a.party a.right a.x a.entry.now (sym own_at.before.number-owner.ensures ∙ own_at.if-owner-party.false)
+    (sym has_at.before.number-owner.ensures ∙ has_at.if-number-ne1.false) (omega (arith, start))
 
 pub gives_spec : {M : Type 1} → statement M
 gives_spec =

@@ -30,34 +30,34 @@ module _ (c : tie.After-covers) where
   source = c.covers.ensures
 
 -- and every byte of it may be read
-readable : (c : tie.Else1) → reads (call c.before) (party c.before) (entries c.before) ≡ true
-readable c = sym (source c.before) ∙ not-false _ c.if1.false
+readable : (c : tie.Else-not-covers) → reads (call c.before) (party c.before) (entries c.before) ≡ true
+readable c = sym (source c.before) ∙ not-false _ c.if-not-covers.false
 
 -- the walk over the source, seen from that over the destination
-abbrev readable_of : tie.After-covers2 → tie.Else1
+abbrev readable_of : tie.After-covers-2 → tie.Else-not-covers
 readable_of c = c.before.before.before
 
-destination : (c : tie.After-covers2)
+destination : (c : tie.After-covers-2)
     → let p = (readable_of c).before in
-    c.covers2.result ≡ writes (call p) (party p) (entries p)
-destination c = c.covers2.ensures
+    c.covers-2.result ≡ writes (call p) (party p) (entries p)
+destination c = c.covers-2.ensures
 
-returns : tie.Need-returns
+returns : tie.Need-returns-then-not-covers
 returns c =
     let p = c.before in
-    sym (lacks_read (call p) (party p) (entries p) (sym (source p) ∙ not-true _ c.if1.true))
+    sym (lacks_read (call p) (party p) (entries p) (sym (source p) ∙ not-true _ c.if-not-covers.true))
 
-returns_2 : tie.Need-returns-2
+returns_2 : tie.Need-returns-then-call-eq2
 returns_2 c =
     let q = c.before.before in
     let p = q.before in
-    sym (lacks_none (call p) (party p) (entries p) (readable q) (λ h. absurd (h c.if2.true)))
+    sym (lacks_none (call p) (party p) (entries p) (readable q) (λ h. absurd (h c.if-call-eq2.true)))
 
-returns_3 : tie.Need-returns-3
+returns_3 : tie.Need-returns-then-not-covers
 returns_3 c =
     let q = readable_of c in
     let p = q.before in
-    ap not (destination c) ∙ lacks_target (call p) (party p) (entries p) (readable q) c.before.if2.false
+    ap not (destination c) ∙ lacks_target (call p) (party p) (entries p) (readable q) c.before.if-call-eq2.false
 
 pub lacks_right_spec : {M : Type 1} → statement M
 lacks_right_spec =

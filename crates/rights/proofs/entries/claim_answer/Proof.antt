@@ -12,16 +12,16 @@ use Rattle.rights.proofs.entries.claim_answer.Statement.{statement}
 use Rattle.rights.proofs.entries.claim_answer.Tie as tie
 
 -- the entry, seen from the count
-abbrev start_of : tie.After-record-count → tie.Start
+abbrev start_of : tie.After-record_count-n → tie.Start
 start_of c = c.before.before
 
-returns : tie.Need-returns
+returns : tie.Need-returns-then-n-gt-MOST_ENTRIES
 returns c =
     let a = (start_of c.before).args in
-    answer_many a.party a.entries.now a.cells (omega (arith, c.before.record_count.ensures))
+    answer_many a.party a.entries.now a.cells (omega (arith, c.before.record_count-n.ensures))
 
 -- where the entries are few enough
-module _ (c : tie.Else1) where
+module _ (c : tie.Else-n-gt-MOST_ENTRIES) where
   abbrev party : ℕ
   party = (start_of c.before).args.party
 
@@ -31,39 +31,39 @@ module _ (c : tie.Else1) where
   abbrev cells : ℕ
   cells = (start_of c.before).args.cells
 
-  count : c.before.record_count.result ≡ entry_count entries
-  count = c.before.record_count.ensures
+  count : c.before.record_count-n.result ≡ entry_count entries
+  count = c.before.record_count-n.ensures
 
   few : entry_count entries ≤ MOST_ENTRIES
   few = omega (arith, count)
 
 -- and each ends in the window
-abbrev few_of : tie.Else2 → tie.Else1
+abbrev few_of : tie.Else-past_window → tie.Else-n-gt-MOST_ENTRIES
 few_of c = c.before.before
 
-inside : (c : tie.Else2) → past_window (entries (few_of c)) (cells (few_of c)) ≡ false
-inside c = sym c.before.past_window.ensures ∙ c.if2.false
+inside : (c : tie.Else-past_window) → past_window (entries (few_of c)) (cells (few_of c)) ≡ false
+inside c = sym c.before.past_window.ensures ∙ c.if-past_window.false
 
-returns_2 : tie.Need-returns-2
+returns_2 : tie.Need-returns-then-past_window
 returns_2 c =
     let p = c.before.before in
-    answer_past (party p) (entries p) (cells p) (few p) (sym c.before.past_window.ensures ∙ c.if2.true)
+    answer_past (party p) (entries p) (cells p) (few p) (sym c.before.past_window.ensures ∙ c.if-past_window.true)
 
-returns_3 : tie.Need-returns-3
+returns_3 : tie.Need-returns-then-party-gt-LAST_PARTY
 returns_3 c =
     let p = few_of c.before in
     answer_party (party p) (entries p) (cells p) (few p) (inside c.before) (omega arith)
 
-returns_4 : tie.Need-returns-4
+returns_4 : tie.Need-returns-then-bad-n
 returns_4 c =
-    let bad = c.before.first_bad.ensures in
+    let bad = c.before.first_bad-bad.ensures in
     let q = c.before.before.before in
     let p = few_of q in
     ap BadField bad ∙ answer_entry (party p) (entries p) (cells p) (few p) (inside q) (omega arith) (omega (arith, bad, count p))
 
-returns_5 : tie.Need-returns-5
+returns_5 : tie.Need-returns-then-n-gt-MOST_ENTRIES
 returns_5 c =
-    let bad = c.before.first_bad.ensures in
+    let bad = c.before.first_bad-bad.ensures in
     let q = c.before.before.before in
     let p = few_of q in
     answer_good (party p) (entries p) (cells p) (few p) (inside q) (omega arith) (omega (arith, bad, count p))

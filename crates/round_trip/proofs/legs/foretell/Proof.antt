@@ -12,7 +12,7 @@ use Rattle.round_trip.specs.Inner.{decided, foretold}
 use Rattle.round_trip.proofs.legs.foretell.Statement.{statement}
 use Rattle.round_trip.proofs.legs.foretell.Tie as tie
 
-returns : tie.Need-returns
+returns : tie.Need-returns-then-record_count-gt-LIMIT
 unfolding foretold
 returns c =
     let counted = c.before in
@@ -21,19 +21,19 @@ returns c =
     rw (lt-ltb LIMIT _ many)
 
 -- there are not too many
-abbrev calls_of_place : tie.Else1 → List ℕ
+abbrev calls_of_place : tie.Else-record_count-gt-LIMIT → List ℕ
 calls_of_place c = c.before.before.before.args.calls.now
 
-few : (c : tie.Else1) → record_count HANDED_WIDTH (calls_of_place c) ≤ LIMIT
+few : (c : tie.Else-record_count-gt-LIMIT) → record_count HANDED_WIDTH (calls_of_place c) ≤ LIMIT
 few c = omega (arith, c.before.record_count.ensures)
 
-returns_2 : tie.Need-returns-2
+returns_2 : tie.Need-returns-then-calls-gt0
 unfolding foretold
 returns_2 c =
     let at = c.before in
     rw (le-ltb LIMIT _ (few at), ne_eqb (length (calls_of_place at) % HANDED_WIDTH) 0 (λ e. omega arith))
 
-returns_3 : tie.Need-returns-3
+returns_3 : tie.Need-returns-then-record_count-gt-LIMIT
 unfolding foretold
 returns_3 c =
     let counted = c.before in
@@ -41,7 +41,7 @@ returns_3 c =
     let a = at.before.before.before.args in
     rw (le-ltb LIMIT _ (few at), eq-eqb (length (calls_of_place at) % HANDED_WIDTH) 0 (omega arith))
     (c.decide.ensures
-    ∙ ap₂ (λ (n m : ℕ). decided n m a.table_room a.ops_room a.calls-room) counted.count.ensures.0 counted.count.ensures.1.0)
+    ∙ ap₂ (λ (n m : ℕ). decided n m a.table_room a.ops_room a.calls-room) counted.count-found.ensures.0 counted.count-found.ensures.1.0)
 
 pub foretell_spec : {M : Type 1} → statement M
 foretell_spec =

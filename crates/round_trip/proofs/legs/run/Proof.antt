@@ -7,7 +7,7 @@ use Rattle.round_trip.proofs.legs.run.Statement.{statement}
 use Rattle.round_trip.proofs.legs.run.Tie as tie
 
 -- places: the entry seen from the first call, and each call seen from the next
-abbrev start_of : tie.After-expand-all → tie.Start
+abbrev start_of : tie.After-expand_all → tie.Start
 start_of c =
     let arg2_at = c.before.before.before in
     let known6_at = arg2_at.before.before.before in
@@ -15,18 +15,18 @@ start_of c =
     let known_at_lem = known3_at.before.before.before in
     known_at_lem.before
 
-abbrev expanded_of : tie.After-slice-known11 → tie.After-expand-all
+abbrev expanded_of : tie.After-slice_known-11-1 → tie.After-expand_all
 expanded_of c =
     let ops_at = c.before.before.before in
     let known8_at = ops_at.before.before.before in
     known8_at.before.before
 
-abbrev part_of : tie.After-generate-copy-trace → tie.After-slice-known11
+abbrev part_of : tie.After-generate_copy_trace → tie.After-slice_known-11-1
 part_of c =
     let ops2_at = c.before.before.before in
     ops2_at.before
 
-abbrev made_of : tie.After-read-back → tie.After-generate-copy-trace
+abbrev made_of : tie.After-read_back → tie.After-generate_copy_trace
 made_of c =
     let arg_at = c.before.before.before in
     let table_at = arg_at.before.before.before in
@@ -36,25 +36,25 @@ abbrev trip_of_place : tie.Start → Trip
 trip_of_place start =
     let a = start.args in
     trip_of a.gap a.calls.now
-    (trip_lent a.bytes.now a.stamps.now a.ops.now a.accesses.now a.table.now a.ops_back_lem.now a.calls_back_lem.now)
+    (trip_lent a.bytes-1.now a.stamps-1.now a.ops-1.now a.accesses-1.now a.table-1.now a.ops_back_lem.now a.calls_back_lem.now)
 
-mul_generate_copy_trace : tie.Need-overflow-mul-generate-copy-trace
+mul_generate_copy_trace : tie.Need-overflow_mul-n
 mul_generate_copy_trace c =
     let start = start_of (expanded_of c) in
     omega (arith, ops_room (trip_of_place start) start.args.n start.args.rows start.pre)
 
-part_generate_copy_trace_end : tie.Need-slice-bounds-generate-copy-trace-end
+part_generate_copy_trace_end : tie.Need-slice_bounds-generate_copy_trace-end
 part_generate_copy_trace_end c =
     let told = expanded_of c.before in
     let start = start_of told in
     omega (arith, ops_kept (trip_of_place start) start.args.n start.args.rows start.pre _ told.expand_all.ensures)
 
-mul_read_back : tie.Need-overflow-mul-read-back
+mul_read_back : tie.Need-overflow_mul-rows
 mul_read_back c =
     let start = start_of (expanded_of (part_of c.before.before)) in
     omega (arith, table_room (trip_of_place start) start.args.n start.args.rows start.pre)
 
-part_read_back_end : tie.Need-slice-bounds-read-back-end
+part_read_back_end : tie.Need-slice_bounds-read_back-end
 part_read_back_end c =
     let made = c.before.before.before in
     let told = expanded_of (part_of made) in

@@ -10,7 +10,7 @@ returns c =
     let at_Aligned = c.before in
     let at_register = at_Aligned.before in
     let a = at_register.before.args in
-    rw (c.one-more3.ensures, at_Aligned.one-more2.ensures, at_register.one_more.ensures)
+    rw (c.one_more-3.ensures, at_Aligned.one_more-2.ensures, at_register.one_more.ensures)
     (counts_with_one a.to_register a.to_aligned a.counts)
 
 pub one_more_spec : {M : Type 1} → statement M

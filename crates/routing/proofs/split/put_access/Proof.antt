@@ -20,17 +20,17 @@ use Rattle.routing.proofs.split.put_access.Statement.{statement}
 use Rattle.routing.proofs.split.put_access.Tie as tie
 
 -- the entry, seen from where the tests are made
-abbrev start_of : tie.After-is-aligned-op → tie.Start
+abbrev start_of : tie.After-is_aligned_op-to_aligned → tie.Start
 start_of c =
     let slices = c.before.before.before in
     slices.before.before.before
 
-module _ (c : tie.After-is-aligned-op) where
+module _ (c : tie.After-is_aligned_op-to_aligned) where
   abbrev op : List ℕ
   op = (start_of c).args.op.now
 
-  table_at : table_by c.before.is_register_op.result c.is_aligned_op.result ≡ table_for op
-  table_at = (λ i. table_by (c.before.is_register_op.ensures i) (c.is_aligned_op.ensures i)) ∙ table_by_lem op
+  table_at : table_by c.before.is_register_op-to_register.result c.is_aligned_op-to_aligned.result ≡ table_for op
+  table_at = (λ i. table_by (c.before.is_register_op-to_register.ensures i) (c.is_aligned_op-to_aligned.ensures i)) ∙ table_by_lem op
 
   whole : length op ≡ ACCESS_WIDTH
   whole = good_length op (start_of c).requires.0
@@ -40,42 +40,42 @@ module _ (c : tie.After-is-aligned-op) where
   part = take_all ACCESS_WIDTH op (omega (arith, whole))
 
 -- the table, in each case
-to_register : (c : tie.Then1) → table_for (op c.before) ≡ Register
-to_register c = sym (table_at c.before) ∙ ap (λ (a : Bool). table_by a c.before.is_aligned_op.result) c.if1.true
+to_register : (c : tie.Then-to_register) → table_for (op c.before) ≡ Register
+to_register c = sym (table_at c.before) ∙ ap (λ (a : Bool). table_by a c.before.is_aligned_op-to_aligned.result) c.if-to_register.true
 
-to_aligned : (c : tie.Then2) → table_for (op c.before.before) ≡ Aligned
-to_aligned c = sym (table_at c.before.before) ∙ (λ i. table_by (c.before.if1.false i) (c.if2.true i))
+to_aligned : (c : tie.Then-to_aligned) → table_for (op c.before.before) ≡ Aligned
+to_aligned c = sym (table_at c.before.before) ∙ (λ i. table_by (c.before.if-to_register.false i) (c.if-to_aligned.true i))
 
-to_general : (c : tie.Else2) → table_for (op c.before.before) ≡ General
-to_general c = sym (table_at c.before.before) ∙ (λ i. table_by (c.before.if1.false i) (c.if2.false i))
+to_general : (c : tie.Else-to_aligned) → table_for (op c.before.before) ≡ General
+to_general c = sym (table_at c.before.before) ∙ (λ i. table_by (c.before.if-to_register.false i) (c.if-to_aligned.false i))
 
-is_register_op_requires : tie.Need-is-register-op-requires
+is_register_op_requires : tie.Need-is_register_op-to_register-requires
 is_register_op_requires c κs =
     let slices = c.before.before in
     good_length _ slices.before.before.requires.0
 
-put_at_requires : tie.Need-put-at-requires
+put_at_requires : tie.Need-put_at-requires
 put_at_requires c κs =
     let made = c.before.before.before in
     let here = made.before in
     let room = (start_of here.before).requires.2 Register (ap (same_table Register) (to_register here)) in
     omega (arith, room)
 
-put_at_requires_2 : tie.Need-put-at-requires-2
+put_at_requires_2 : tie.Need-put_at-requires-then-to_aligned
 put_at_requires_2 c κs =
     let here = c.before.before.before in
     let found = here.before.before in
     let room = (start_of found).requires.2 Aligned (ap (same_table Aligned) (to_aligned here)) in
     omega (arith, ap length (part found), whole found, room)
 
-put_at_requires_3 : tie.Need-put-at-requires-3
+put_at_requires_3 : tie.Need-put_at-requires-then-to_aligned
 put_at_requires_3 c κs =
     let here = c.before.before.before in
     let found = here.before.before in
     let room = (start_of found).requires.2 General (ap (same_table General) (to_general here)) in
     omega (arith, ap length (part found), whole found, room)
 
-returns : tie.Need-returns
+returns : tie.Need-returns-then-to_register
 returns c =
     let put = c.before.before.before in
     let Made-struct = put.before.before.before in
@@ -86,12 +86,12 @@ returns c =
     let e = to_register here in
     put_of
     (c.one_more.ensures ∙ ap (λ t. with_one t a.ends) (table_at found))
-    (placed_here Register Register (op found) a.ends a.register.now e refl _
-    (put.put_at.ensures ∙ ap (λ (r : List ℕ). store a.register.now (REGISTER_WIDTH * a.ends.register) r) made.register_record.ensures))
-    (placed_not Aligned Register (op found) a.ends a.aligned.now e refl)
-    (placed_not General Register (op found) a.ends a.general.now e refl)
+    (placed_here Register Register (op found) a.ends a.register-1.now e refl _
+    (put.put_at.ensures ∙ ap (λ (r : List ℕ). store a.register-1.now (REGISTER_WIDTH * a.ends.register-1) r) made.register_record-record.ensures))
+    (placed_not Aligned Register (op found) a.ends a.aligned-1.now e refl)
+    (placed_not General Register (op found) a.ends a.general-1.now e refl)
 
-returns_2 : tie.Need-returns-2
+returns_2 : tie.Need-returns-then-to_aligned
 returns_2 c =
     let put = c.before.before.before in
     let here = put.before.before.before in
@@ -100,13 +100,13 @@ returns_2 c =
     let a = (start_of found).args in
     let e = to_aligned told in
     put_of
-    (c.one-more2.ensures ∙ ap (λ t. with_one t a.ends) (table_at found))
-    (placed_not Register Aligned (op found) a.ends a.register.now e refl)
-    (placed_here Aligned Aligned (op found) a.ends a.aligned.now e refl _
-    (put.put-at2.ensures ∙ ap (store a.aligned.now (ACCESS_WIDTH * a.ends.aligned)) (part found)))
-    (placed_not General Aligned (op found) a.ends a.general.now e refl)
+    (c.one_more-then-to_aligned.ensures ∙ ap (λ t. with_one t a.ends) (table_at found))
+    (placed_not Register Aligned (op found) a.ends a.register-1.now e refl)
+    (placed_here Aligned Aligned (op found) a.ends a.aligned-1.now e refl _
+    (put.put_at-then-to_aligned.ensures ∙ ap (store a.aligned-1.now (ACCESS_WIDTH * a.ends.aligned-1)) (part found)))
+    (placed_not General Aligned (op found) a.ends a.general-1.now e refl)
 
-returns_3 : tie.Need-returns-3
+returns_3 : tie.Need-returns-then-to_register
 returns_3 c =
     let put = c.before.before.before in
     let here = put.before.before.before in
@@ -115,11 +115,11 @@ returns_3 c =
     let a = (start_of found).args in
     let e = to_general told in
     put_of
-    (c.one-more3.ensures ∙ ap (λ t. with_one t a.ends) (table_at found))
-    (placed_not Register General (op found) a.ends a.register.now e refl)
-    (placed_not Aligned General (op found) a.ends a.aligned.now e refl)
-    (placed_here General General (op found) a.ends a.general.now e refl _
-    (put.put-at3.ensures ∙ ap (store a.general.now (ACCESS_WIDTH * a.ends.general)) (part found)))
+    (c.one_more-2.ensures ∙ ap (λ t. with_one t a.ends) (table_at found))
+    (placed_not Register General (op found) a.ends a.register-1.now e refl)
+    (placed_not Aligned General (op found) a.ends a.aligned-1.now e refl)
+    (placed_here General General (op found) a.ends a.general-1.now e refl _
+    (put.put_at-2.ensures ∙ ap (store a.general-1.now (ACCESS_WIDTH * a.ends.general-1)) (part found)))
 
 pub put_access_spec : {M : Type 1} → statement M
 put_access_spec =

@@ -32,19 +32,19 @@ abbrev Start : Type 0
 Start = tie.Start invariant_residues decreases_residues
 
 abbrev Large : Type 0
-Large = tie.After-first-large invariant_residues decreases_residues
+Large = tie.After-first_large invariant_residues decreases_residues
 
 abbrev Out : Type 0
-Out = tie.After-first-out invariant_residues decreases_residues
+Out = tie.After-first_out invariant_residues decreases_residues
 
 abbrev Parts : Type 0
-Parts = tie.After-parts-of invariant_residues decreases_residues
+Parts = tie.After-parts_of-parts invariant_residues decreases_residues
 
 abbrev Turn : Type 0
 Turn = tie.At-residues invariant_residues decreases_residues
 
 abbrev Residue : Type 0
-Residue = tie.After-residue-with invariant_residues decreases_residues
+Residue = tie.After-residue_with invariant_residues decreases_residues
 
 abbrev entry_of : Large → Start
 entry_of c = c.before.before
@@ -81,7 +81,7 @@ right : (c : Residue) → let parts = parts_of (turn_of c) in
 right c =
     let parts = parts_of (turn_of c) in
     let row = row_of_lem (large_of (out_of parts)) in
-    c.residue_with.ensures ∙ ap (λ (g : ℕ). residue g row (turn_of c).residues.i) parts.parts_of.ensures.1
+    c.residue_with.ensures ∙ ap (λ (g : ℕ). residue g row (turn_of c).residues.i) parts.parts_of-parts.ensures.1
 
 -- past both tests, by where the search over the residues ends
 module _ (c : Parts) where
@@ -95,7 +95,7 @@ module _ (c : Parts) where
   no_large = omega (arith, large.first_large.ensures)
 
   none_out : COLUMNS ≤ first_out (row_of_lem large)
-  none_out = rw (← out.first_out.ensures) c.before.if2.false
+  none_out = rw (← out.first_out.ensures) c.before.if-first_out-lt-NUM_COLUMNS.false
 
 -- a residue that is not 0 is the lowest such
 lowest : (c : Residue) (other : c.residue_with.result ≡ 0 → ⊥) → let row = large_of (out_of (parts_of (turn_of c))) in
@@ -125,13 +125,13 @@ by_number_spec =
     (λ c κs. search rules)
     (λ c.
     let large = large_of c.before in
-    sym (out_of_range _ _ (wide large) (omega (arith, large.first_large.ensures)) (rw (← c.before.first_out.ensures) c.if2.true)))
+    sym (out_of_range _ _ (wide large) (omega (arith, large.first_large.ensures)) (rw (← c.before.first_out.ensures) c.if-first_out-lt-NUM_COLUMNS.true)))
     (λ c κs. (elements_of c.before, omega arith))
     (λ c. (omega arith, refl))
-    (λ c. clean c.before c.if3.true)
-    (λ c κs. let parts = parts_of c.before in (elements_of (out_of parts), parts.parts_of.ensures.0, omega arith))
+    (λ c. clean c.before c.if-i-ge-NUM_RESIDUES.true)
+    (λ c κs. let parts = parts_of c.before in (elements_of (out_of parts), parts.parts_of-parts.ensures.0, omega arith))
     (λ c. search rules) (λ c. search rules)
     (λ c.
     let worked = c.before in
-    (omega arith, (turn_of worked).residues.invariant.1 ∙ first_miss _ _ _ (omega arith) (passed (right worked) c.if4.false)))
-    (λ c. lowest c.before c.if4.true))
+    (omega arith, (turn_of worked).residues.invariant.1 ∙ first_miss _ _ _ (omega arith) (passed (right worked) c.if-residue_with-ne0.false)))
+    (λ c. lowest c.before c.if-residue_with-ne0.true))

@@ -13,7 +13,7 @@ row_fault_spec =
     tie.close
     (tie.spec
     (λ c κs. search rules)
-    (λ c. sym (c.before.is_plain.ensures.0 c.if1.true))
+    (λ c. sym (c.before.is_plain.ensures.0 c.if-is_plain.true))
     (λ c. search rules) (λ c. search rules) (λ c. search rules)
     (λ c κs. (omega arith, omega arith))
     (λ c. c.by_number.ensures ∙ ap (row_fault _) (take_all COLUMNS _ (omega arith))))

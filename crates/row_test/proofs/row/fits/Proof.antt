@@ -17,15 +17,15 @@ use Rattle.row_test.proofs.Booleans.{and_iff}
 use Rattle.row_test.proofs.row.fits.Statement.{statement}
 use Rattle.row_test.proofs.row.fits.Tie as tie
 
-abbrev invariant_loop : tie.invariant-loop
+abbrev invariant_loop : tie.invariant-loop-c
 invariant_loop row limits ok₀ c₀ ok c = (c ≤ COLUMNS) × ((ok ≡ true) ↔ ((j : ℕ) → j < c → at row j < get_or limits j 0))
 
-abbrev decreases_loop : tie.decreases-loop
+abbrev decreases_loop : tie.decreases-loop-c
 decreases_loop row limits ok₀ c₀ ok c = COLUMNS - c
 
-loop_again : tie.Need-loop-preserved invariant_loop decreases_loop
+loop_again : tie.Need-loop-c-preserved invariant_loop decreases_loop
 loop_again c =
-    let l = c.before.before.loop in
+    let l = c.before.before.loop-c in
     let test = and_iff l.ok _ l.invariant.1 (λ p. (ltb-true _ _, lt-ltb _ _)) in (
       omega arith,
       (
@@ -39,9 +39,9 @@ unfolding Caps caps column_limits
 returns c =
     let top = c.before in
     let row = top.before.before.before.args.row.now in
-    let whole : top.loop.c ≡ COLUMNS = omega arith in
-    subst (λ (l : List ℕ). (top.loop.ok ≡ true) ↔ ((j : ℕ) → j < COLUMNS → at row j < get_or l j 0)) top.before.limits.ensures
-    (rw whole at top.loop.invariant.1)
+    let whole : top.loop-c.c ≡ COLUMNS = omega arith in
+    subst (λ (l : List ℕ). (top.loop-c.ok ≡ true) ↔ ((j : ℕ) → j < COLUMNS → at row j < get_or l j 0)) top.before.limits-caps.ensures
+    (rw whole at top.loop-c.invariant.1)
 
 pub fits_spec : {M : Type 1} → statement M
 fits_spec =

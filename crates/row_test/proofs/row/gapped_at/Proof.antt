@@ -15,4 +15,4 @@ gapped_at_spec =
     (λ c κs. search (rules, flag_bit))
     (λ c.
     let at_dst = c.before.before in
-    rw (← at_dst.before.words_at.ensures, ← at_dst.words-at2.ensures) c.gapped.ensures))
+    rw (← at_dst.before.words_at-src.ensures, ← at_dst.words_at-dst.ensures) c.gapped.ensures))

@@ -16,7 +16,7 @@ is_plain_spec =
       λ h. absurd (false≢true h),
       λ e.
           let given = c.before.before.before.requires in
-          sym (not-true _ c.if1.true) ∙ c.before.fits2.ensures.1 (caps_of_fine _ given.0 _ given.1 e),
+          sym (not-true _ c.if-not-fits.true) ∙ c.before.fits2.ensures.1 (caps_of_fine _ given.0 _ given.1 e),
     ))
-    (λ c κs. (search rules, c.before.fits2.ensures.0 (not-false _ c.if1.false)))
+    (λ c κs. (search rules, c.before.fits2.ensures.0 (not-false _ c.if-not-fits.false)))
     (λ c. search rules))

@@ -21,7 +21,7 @@ start_of c =
     let worded = c.before.before in
     worded.before.before
 
-abbrev tail_of : tie.After-moves-at2 → tie.After-tail
+abbrev tail_of : tie.After-moves_at-2 → tie.After-tail
 tail_of c = c.before.before.before
 
 -- a row that passes is in range and plain
@@ -29,14 +29,14 @@ passes : (c : tie.After-tail) → let a = (start_of c).args in
     (row_fault a.gap a.row.now ≡ Fine) ↔ (InRange a.row.now × Plain a.gap a.row.now)
 passes c = let pre = (start_of c).requires in plain_iff _ pre.0.0 _ pre.0.1
 
-returns_3 : tie.Need-returns-3
+returns_3 : tie.Need-returns-then-not-flags_at-tail
 returns_3 c =
     let counts = c.before.before in
     let moves = counts.before.before in
     let flags = tail_of moves in
     let fit = (start_of flags).pre.1 in
-    let front = (flags.before.flags_at.ensures and flags.tail.ensures).0 (not-false _ moves.before.before.if1.false) in
-    let addresses = (moves.before.moves_at.ensures and moves.moves-at2.ensures).0 (not-false _ counts.before.if2.false) in
+    let front = (flags.before.flags_at.ensures and flags.tail.ensures).0 (not-false _ moves.before.before.if-not-flags_at-tail.false) in
+    let addresses = (moves.before.moves_at.ensures and moves.moves_at-2.ensures).0 (not-false _ counts.before.if-not-moves_at.false) in
     let rest = counts.counts_at.ensures and c.before.results_at.ensures and c.gapped_at.ensures in (
       λ h.
           let t = rest.0 h in
@@ -66,13 +66,13 @@ tests_hold_spec =
     (λ c κs. search (rules, flag_bit))
     (λ c.
     let flags = c.before in
-    failed (flags.before.flags_at.ensures and flags.tail.ensures) (not-true _ c.if1.true)
+    failed (flags.before.flags_at.ensures and flags.tail.ensures) (not-true _ c.if-not-flags_at-tail.true)
     (λ e. let q = ((passes flags).0 e).1 in (q.flags, q.tail)))
     (λ c κs. search (rules, src_words, src_halves, in_range))
     (λ c κs. search (rules, dst_words, dst_halves, in_range))
     (λ c.
     let moves = c.before in
-    failed (moves.before.moves_at.ensures and moves.moves-at2.ensures) (not-true _ c.if2.true)
+    failed (moves.before.moves_at.ensures and moves.moves_at-2.ensures) (not-true _ c.if-not-moves_at.true)
     (λ e. let q = ((passes (tail_of moves)).0 e).1 in (q.src, q.dst)))
     (λ c κs. search rules) (λ c κs. search rules) (λ c κs. search rules)
     returns_3)

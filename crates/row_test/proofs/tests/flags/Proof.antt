@@ -12,5 +12,5 @@ flags_spec =
     (λ c. search rules) (λ c κs. search rules)
     (λ c.
     let at_gated = c.before.before in
-    flags_iff _ _ _ _ _ _ _ _ _ _ _ _ _ _ at_gated.before.empty.ensures at_gated.gated.ensures c.before.gated2.ensures
-    c.gated3.ensures))
+    flags_iff _ _ _ _ _ _ _ _ _ _ _ _ _ _ at_gated.before.empty-nothing.ensures at_gated.gated.ensures c.before.gated-2.ensures
+    c.gated-3.ensures))

@@ -11,15 +11,15 @@ use Rattle.lists.proofs.Store.{store_turn, store_end}
 use Rattle.text.proofs.print.put.Statement.{statement}
 use Rattle.text.proofs.print.put.Tie as tie
 
-abbrev invariant_loop : tie.invariant-loop
+abbrev invariant_loop : tie.invariant-loop-i
 invariant_loop out₀ at text i₀ out i = (i ≤ length text) × ((length out ≡ length out₀) × (store out (at + i) (drop i text) ≡ store out₀ at text))
 
-abbrev decreases_loop : tie.decreases-loop
+abbrev decreases_loop : tie.decreases-loop-i
 decreases_loop out₀ at text i₀ out i = length text - i
 
-loop_again : tie.Need-loop-preserved invariant_loop decreases_loop
+loop_again : tie.Need-loop-i-preserved invariant_loop decreases_loop
 loop_again c =
-    let turn = c.before.before.loop in
+    let turn = c.before.before.loop-i in
     let start = c.before.before.before.args in
     let text = start.text.now in
     let next : start.at + (turn.i + 1) ≡ (start.at + turn.i) + 1 = omega arith in (
@@ -42,4 +42,4 @@ put_spec =
     (λ c. search rules) (λ c. search rules) (λ c. search rules) (λ c. search rules) (λ c. search rules)
     loop_again
     (λ c. search rules) (λ c. search rules)
-    (λ c. (omega arith, sym (store_end _ _ _ _ c.loop-test.false) ∙ c.before.loop.invariant.1.1)))
+    (λ c. (omega arith, sym (store_end _ _ _ _ c.loop-i-test.false) ∙ c.before.loop-i.invariant.1.1)))

@@ -15,7 +15,7 @@ room : tie.Need-put-requires
 room c κs =
     let at_decimal = c.before.before in
     let start = at_decimal.before.before.before in
-    let digits = at_decimal.decimal in
+    let digits = at_decimal.decimal-k in
     let most = fewest_20 digits.result start.args.n (omega arith) digits.ensures.1.0 in
     let counts = digits.ensures.0.1 in
     omega arith
@@ -25,14 +25,14 @@ returns c =
     let at_put = c.before.before in
     let at_decimal = at_put.before.before.before in
     let start = at_decimal.before.before.before in
-    let digits = at_decimal.decimal in
+    let digits = at_decimal.decimal-k in
     let start = start.args in
     let most = fewest_20 digits.result start.n (omega arith) digits.ensures.1.0 in
     let counts = digits.ensures.0.1 in
     let text = digits.ensures.1.1 ∙ decimal_is digits.result start.n digits.ensures.1.0 most in
     let written = at_put.put.ensures in (
       (written.0 ∙ ap (λ (x : List ℕ). start.at + length x) text, omega (arith, written.0)),
-      written.1 ∙ ap (λ (x : List ℕ). store start.out.now start.at x) text,
+      written.1 ∙ ap (λ (x : List ℕ). store start.out-1.now start.at x) text,
     )
 
 pub put_number_spec : {M : Type 1} → statement M

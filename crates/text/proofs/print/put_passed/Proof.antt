@@ -13,9 +13,9 @@ returns c =
     let line = at_put2.before.before.before in
     let at_fields = line.before.before in
     let known = at_fields.before.before.before in
-    let newline = at_put2.put2.ensures in
-    let fields = at_fields.put_fields.ensures in
-    let word = known.before.before.put.ensures in
+    let newline = at_put2.put-word.ensures in
+    let fields = at_fields.put_fields-fields.ensures in
+    let word = known.before.before.put-word.ensures in
     let all = then (wrote word.0 word.1) (then (wrote fields.0.0 fields.1) (wrote newline.0 newline.1)) in
     ((all.place, omega arith), all.list)
 

@@ -18,9 +18,9 @@ returns c =
     let at_number = second.before.before.before in
     let known = at_number.before.before.before in
     let kind = at_put_kind.put_kind.ensures in
-    let fields = at_fields.put-fields2.ensures in
-    let number = at_number.put_fields.ensures in
-    let word = known.before.before.put.ensures in
+    let fields = at_fields.put_fields-fields.ensures in
+    let number = at_number.put_fields-number.ensures in
+    let word = known.before.before.put-word.ensures in
     let all =
     then (wrote word.0 word.1)
     (then (wrote number.0.0 number.1)

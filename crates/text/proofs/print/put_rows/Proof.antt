@@ -15,7 +15,7 @@ use Rattle.text.proofs.Wrote.{wrote, row_lines_from, row_list, row_place, rows_e
 use Rattle.text.proofs.print.put_rows.Statement.{statement}
 use Rattle.text.proofs.print.put_rows.Tie as tie
 
-abbrev invariant_loop : tie.invariant-loop
+abbrev invariant_loop : tie.invariant-loop-k
 invariant_loop out₀ rows ops k₀ end₀ out k end =
     (k ≤ rows)
     × (length out ≡ length out₀)
@@ -23,33 +23,33 @@ invariant_loop out₀ rows ops k₀ end₀ out k end =
     × (end + length (row_lines_from ops rows k) ≡ length (rows_text 0 rows ops))
     × (store out end (row_lines_from ops rows k) ≡ store out₀ 0 (rows_text 0 rows ops))
 
-abbrev decreases_loop : tie.decreases-loop
+abbrev decreases_loop : tie.decreases-loop-k
 decreases_loop out₀ rows ops k₀ end₀ out k end = rows - k
 
-loop_again : tie.Need-loop-preserved invariant_loop decreases_loop
+loop_again : tie.Need-loop-k-preserved invariant_loop decreases_loop
 loop_again c =
     let at_put_row = c.before.before in
     let at_loop_test = at_put_row.before.before.before in
     let turn = at_loop_test.before in
-    let l = turn.loop in
+    let l = turn.loop-k in
     let start = turn.before.before.before.args in
-    let row = at_put_row.put_row in
+    let row = at_put_row.put_row-end in
     let w = wrote row.ensures.0.0 row.ensures.1 in (
       omega arith,
       ap length row.ensures.1 ∙ length_store _ _ _ ∙ l.invariant.1,
       omega arith,
-      row_place l.out row.new.0 start.ops.now l.end l.k start.rows row.result (omega arith) w ∙ l.invariant.3,
-      row_list l.out row.new.0 start.ops.now l.end l.k start.rows row.result (omega arith) w ∙ l.invariant.4,
+      row_place l.out-1 row.new.0 start.ops.now l.end l.k start.rows row.result (omega arith) w ∙ l.invariant.3,
+      row_list l.out-1 row.new.0 start.ops.now l.end l.k start.rows row.result (omega arith) w ∙ l.invariant.4,
     )
 
 returns : tie.Need-returns invariant_loop decreases_loop
 returns c =
     let at_slice_known = c.before.before.before in
     let start = at_slice_known.before.args in
-    let l = c.before.loop in
-    let none = rows_end l.k start.rows (drop (OP_WIDTH * l.k) start.ops.now) c.loop-test.false in (
+    let l = c.before.loop-k in
+    let none = rows_end l.k start.rows (drop (OP_WIDTH * l.k) start.ops.now) c.loop-k-test.false in (
       (omega (arith, ap length none, l.invariant.3), omega arith),
-      sym (ap (λ (x : List ℕ). store l.out l.end x) none ∙ store_none l.out l.end) ∙ l.invariant.4,
+      sym (ap (λ (x : List ℕ). store l.out-1 l.end x) none ∙ store_none l.out-1 l.end) ∙ l.invariant.4,
     )
 
 pub put_rows_spec : {M : Type 1} → statement M

@@ -6,19 +6,19 @@ use Rattle.text.proofs.Pieces.{next_is, next_none}
 use Rattle.text.proofs.walk.next_line.Statement.{statement}
 use Rattle.text.proofs.walk.next_line.Tie as tie
 
-found : tie.Need-returns
+found : tie.Need-returns-then-end-text
 found c =
     let at_shared_slice_known = c.before.before.before in
     let start = at_shared_slice_known.before in
     let start = start.args in
-    (omega arith, omega arith, next_is start.text.now start.at c.before.position.result c.before.position.ensures.0)
+    (omega arith, omega arith, next_is start.text.now start.at c.before.position-end.result c.before.position-end.ensures.0)
 
-none : tie.Need-returns-2
+none : tie.Need-returns-else-end-text
 none c =
     let at_shared_slice_known = c.before.before.before in
     let start = at_shared_slice_known.before in
     let start = start.args in
-    (omega arith, omega arith, next_none start.text.now start.at c.before.position.result c.before.position.ensures.0 c.if1.false)
+    (omega arith, omega arith, next_none start.text.now start.at c.before.position-end.result c.before.position-end.ensures.0 c.if-end-text.false)
 
 pub next_line_spec : {M : Type 1} → statement M
 next_line_spec =

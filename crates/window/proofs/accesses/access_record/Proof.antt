@@ -9,13 +9,13 @@ use Rattle.window.proofs.accesses.access_record.Tie as tie
 returns : tie.Need-returns
 returns c =
     let a = c.before.before.args in
-    let v = c.before.byte_words.result in
-    let o = c.byte-words2.result in
+    let v = c.before.byte_words-v.result in
+    let o = c.byte_words-o.result in
     let s = a.old-stamps in
     let n : length v ≡ 8 = search rules in
     let m : length o ≡ 8 = search rules in
     let k : length s ≡ 8 = search rules in
-    access_numbers_lem a.address a.stamp a.width a.reads v o s n m k ∙ cc (c.before.byte_words.ensures, c.byte-words2.ensures)
+    access_numbers_lem a.address a.stamp a.width a.reads v o s n m k ∙ cc (c.before.byte_words-v.ensures, c.byte_words-o.ensures)
 
 pub access_record_spec : {M : Type 1} → statement M
 access_record_spec =

@@ -9,22 +9,22 @@ use Rattle.lists.proofs.Store.{store_turn, store_end, store_all}
 use Rattle.window.proofs.accesses.byte_words.Statement.{statement}
 use Rattle.window.proofs.accesses.byte_words.Tie as tie
 
-abbrev invariant_loop : tie.invariant-loop
+abbrev invariant_loop : tie.invariant-loop-i
 invariant_loop value out₀ i₀ out i = (i ≤ 8) × (length out ≡ 8) × (store out i (drop i value) ≡ value)
 
-abbrev decreases_loop : tie.decreases-loop
+abbrev decreases_loop : tie.decreases-loop-i
 decreases_loop value out₀ i₀ out i = 8 - i
 
-loop_holds : tie.Need-loop-init invariant_loop decreases_loop
+loop_holds : tie.Need-loop-i-init invariant_loop decreases_loop
 loop_holds c =
     let v = c.args.t1 in
     let n : length v ≡ 8 = search rules in
     (search rules, refl, store_all (replicate 8 0) v (sym n))
 
-loop_again : tie.Need-loop-preserved invariant_loop decreases_loop
+loop_again : tie.Need-loop-i-preserved invariant_loop decreases_loop
 loop_again c =
     let v = c.before.before.before.args.t1 in
-    let l = c.before.before.loop in
+    let l = c.before.before.loop-i in
     let n : length v ≡ 8 = search rules in (
       search rules,
       simp length-set (search rules),
@@ -36,7 +36,7 @@ loop_again c =
 returns : tie.Need-returns invariant_loop decreases_loop
 returns c =
     let v = c.before.before.args.t1 in
-    let l = c.before.loop in
+    let l = c.before.loop-i in
     let n : length v ≡ 8 = search rules in
     sym (store_end l.out v l.i l.i (omega arith)) ∙ l.invariant.2
 

@@ -16,13 +16,13 @@ returns c =
     let at_shared_slice_known = at_read_bytes.before.before.before in
     let start = at_shared_slice_known.before in
     let a = start.args in
-    let old = at_read_stamps.read_stamps.ensures in (
-      at_read_bytes.read_bytes.ensures,
+    let old = at_read_stamps.read_stamps-old_stamps.ensures in (
+      at_read_bytes.read_bytes-value.ensures,
       (
         at_write_stamps.write_stamps.ensures,
         at_put.put.ensures
-            ∙ at_access_record.access_record.ensures
-            ∙ read_record a.bytes.now a.stamps.now a.src a.width a.stamp at_read_bytes.read_bytes.ensures old,
+            ∙ at_access_record.access_record-numbers.ensures
+            ∙ read_record a.bytes.now a.stamps-1.now a.src a.width a.stamp at_read_bytes.read_bytes-value.ensures old,
       ),
     )
 

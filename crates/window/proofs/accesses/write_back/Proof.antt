@@ -12,7 +12,7 @@ returns c =
     let at_access = at_write_bytes.before.before.before in
     let at_put = at_access.before in
     let at_access_record = at_put.before.before.before in
-    (at_write_bytes.write_bytes.ensures, (at_write_stamps.write_stamps.ensures, at_put.put.ensures ∙ at_access_record.access_record.ensures))
+    (at_write_bytes.write_bytes.ensures, (at_write_stamps.write_stamps.ensures, at_put.put.ensures ∙ at_access_record.access_record-numbers.ensures))
 
 pub write_back_spec : {M : Type 1} → statement M
 write_back_spec =

@@ -9,22 +9,22 @@ use Rattle.window.proofs.Window.{read_turn, read_end}
 use Rattle.window.proofs.cells.bytes_at.Statement.{statement}
 use Rattle.window.proofs.cells.bytes_at.Tie as tie
 
-abbrev invariant_loop : tie.invariant-loop
+abbrev invariant_loop : tie.invariant-loop-i
 invariant_loop bytes at width out₀ i₀ out i =
     (i ≤ width)
     × (store out i (drop i (take width (drop at bytes))) ≡ store (replicate 8 0) 0 (take width (drop at bytes)))
     × (length out ≡ 8)
 
-abbrev decreases_loop : tie.decreases-loop
+abbrev decreases_loop : tie.decreases-loop-i
 decreases_loop bytes at width out₀ i₀ out i = width - i
 
-loop_holds : tie.Need-loop-init invariant_loop decreases_loop
+loop_holds : tie.Need-loop-i-init invariant_loop decreases_loop
 loop_holds c = (search rules, refl, refl)
 
-loop_again : tie.Need-loop-preserved invariant_loop decreases_loop
+loop_again : tie.Need-loop-i-preserved invariant_loop decreases_loop
 loop_again c =
     let a = c.before.before.before.args in
-    let l = c.before.before.loop in (
+    let l = c.before.before.loop-i in (
       search rules,
       read_turn a.bytes.now a.at a.width (search rules) (search rules) l.out l.i (search rules) ∙ l.invariant.1,
       simp length-set (search rules),
@@ -33,7 +33,7 @@ loop_again c =
 returns : tie.Need-returns invariant_loop decreases_loop
 returns c =
     let a = c.before.before.args in
-    let l = c.before.loop in
+    let l = c.before.loop-i in
     read_end a.bytes.now a.at a.width (search rules) (search rules) l.out l.i (search rules) l.invariant.1
 
 pub bytes_at_spec : {M : Type 1} → statement M

@@ -10,20 +10,20 @@ use Rattle.window.proofs.Window.{write_turn, write_end}
 use Rattle.window.proofs.cells.put_bytes.Statement.{statement}
 use Rattle.window.proofs.cells.put_bytes.Tie as tie
 
-abbrev invariant_loop : tie.invariant-loop
+abbrev invariant_loop : tie.invariant-loop-i
 invariant_loop bytes₀ at width value i₀ bytes i =
     (i ≤ width) × (length bytes ≡ length bytes₀) × (store bytes (at + i) (drop i (take width value)) ≡ store bytes₀ at (take width value))
 
-abbrev decreases_loop : tie.decreases-loop
+abbrev decreases_loop : tie.decreases-loop-i
 decreases_loop bytes₀ at width value i₀ bytes i = width - i
 
-loop_holds : tie.Need-loop-init invariant_loop decreases_loop
+loop_holds : tie.Need-loop-i-init invariant_loop decreases_loop
 loop_holds c = (search rules, refl, rw add-zero)
 
-loop_again : tie.Need-loop-preserved invariant_loop decreases_loop
+loop_again : tie.Need-loop-i-preserved invariant_loop decreases_loop
 loop_again c =
     let a = c.before.before.args in
-    let l = c.before.loop in (
+    let l = c.before.loop-i in (
       search rules,
       simp length-set (search rules),
       write_turn a.t4 a.at a.width l.i l.bytes (search rules) (search rules) ∙ l.invariant.2,
@@ -32,7 +32,7 @@ loop_again c =
 returns : tie.Need-returns invariant_loop decreases_loop
 returns c =
     let a = c.before.before.args in
-    let l = c.before.loop in
+    let l = c.before.loop-i in
     write_end a.t4 a.at a.width l.i l.bytes a.bytes.now (search rules) (search rules) l.invariant.2
 
 pub put_bytes_spec : {M : Type 1} → statement M

@@ -10,22 +10,22 @@ use Rattle.window.proofs.Window.{stamp_turn, stamp_end}
 use Rattle.window.proofs.cells.put_stamps.Statement.{statement}
 use Rattle.window.proofs.cells.put_stamps.Tie as tie
 
-abbrev invariant_loop : tie.invariant-loop
+abbrev invariant_loop : tie.invariant-loop-i
 invariant_loop stamps₀ at width stamp i₀ stamps i =
     (i ≤ width)
     × (length stamps ≡ length stamps₀)
     × (store stamps (at + i) (replicate (width - i) stamp) ≡ store stamps₀ at (replicate width stamp))
 
-abbrev decreases_loop : tie.decreases-loop
+abbrev decreases_loop : tie.decreases-loop-i
 decreases_loop stamps₀ at width stamp i₀ stamps i = width - i
 
-loop_holds : tie.Need-loop-init invariant_loop decreases_loop
+loop_holds : tie.Need-loop-i-init invariant_loop decreases_loop
 loop_holds c = (search rules, refl, rw (add-zero, sub-zero))
 
-loop_again : tie.Need-loop-preserved invariant_loop decreases_loop
+loop_again : tie.Need-loop-i-preserved invariant_loop decreases_loop
 loop_again c =
     let a = c.before.before.args in
-    let l = c.before.loop in (
+    let l = c.before.loop-i in (
       search rules,
       simp length-set (search rules),
       stamp_turn a.at a.width l.i a.stamp l.stamps (search rules) ∙ l.invariant.2,
@@ -34,7 +34,7 @@ loop_again c =
 returns : tie.Need-returns invariant_loop decreases_loop
 returns c =
     let a = c.before.before.args in
-    let l = c.before.loop in
+    let l = c.before.loop-i in
     stamp_end a.at a.width l.i a.stamp l.stamps a.stamps.now (search rules) l.invariant.2
 
 pub put_stamps_spec : {M : Type 1} → statement M

@@ -6,13 +6,13 @@ use Rattle.window.specs.Window.{cells_at}
 use Rattle.window.proofs.cells.read_bytes.Statement.{statement}
 use Rattle.window.proofs.cells.read_bytes.Tie as tie
 
-returns : tie.Need-returns
+returns : tie.Need-returns-then-width-eq8
 returns c =
     let a = c.before.before.before.args in
-    c.bytes_at.ensures ∙ ap (λ (n : ℕ). cells_at a.bytes.now a.at n) (sym c.before.if1.true)
+    c.bytes_at.ensures ∙ ap (λ (n : ℕ). cells_at a.bytes.now a.at n) (sym c.before.if-width-eq8.true)
 
-returns_2 : tie.Need-returns-2
-returns_2 c = c.bytes-at2.ensures
+returns_2 : tie.Need-returns-then-width-eq8
+returns_2 c = c.bytes_at-2.ensures
 
 pub read_bytes_spec : {M : Type 1} → statement M
 read_bytes_spec = tie.close (tie.spec (λ c κs. search rules) returns (λ c κs. search rules) returns_2)
