@@ -10,7 +10,7 @@ use Rattle.add_pair.proofs.operands_pair.Tie as tie
 
 pair_values_requires : tie.Need-pair_values-values-requires
 pair_values_requires c κs =
-    let f = pair_fine _ _ _ _ _ (sym c.before.before.pair_verdict.ensures ∙ c.enum_told-1.given.1) in
+    let f = pair_fine _ _ _ _ _ (sym c.before.before.pair_verdict.ensures ∙ c.enum_told.given.1) in
     (f.conditions_in, f.operands_in, f.row_is)
 
 returns : tie.Need-returns-in-Fine
@@ -18,7 +18,7 @@ unfolding operands_answer out_after pair_numbers_of
 returns c =
     let told = c.before.before in
     let values = c.before.pair_values-values.ensures in (
-      answer_of _ _ told.before.before.pair_verdict.ensures told.enum_told-1.given.1,
+      answer_of _ _ told.before.before.pair_verdict.ensures told.enum_told.given.1,
       λ i. values.0 i ∷ values.1.0 i ∷ values.1.1 i ∷ [],
     )
 
@@ -31,4 +31,4 @@ operands_pair_spec =
     pair_values_requires
     (λ c. search rules)
     returns
-    (λ c. let told = c.before in (answer_of _ _ told.before.before.pair_verdict.ensures told.why-1.given.1, refl)))
+    (λ c. let told = c.before in (answer_of _ _ told.before.before.pair_verdict.ensures told.why.given.1, refl)))

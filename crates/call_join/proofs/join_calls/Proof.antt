@@ -13,7 +13,7 @@ returns c =
     let e = done.join.ensures in
     record {
       answer = ap (join_numbers 8) e.0;
-      written = e.1 ∙ ap (λ x. joined_after a.first.now a.second.now x a.joined-1.now) e.0;
+      written = e.1 ∙ ap (λ x. joined_after a.first.now a.second.now x a.joined.now) e.0;
     }
 
 pub join_calls_spec : {M : Type 1} → statement M

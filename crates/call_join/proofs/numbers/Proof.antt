@@ -11,8 +11,8 @@ numbers_spec =
     (tie.spec
     (λ c. search rules) (λ c κs. search rules) (λ c. search rules) (λ c κs. search rules) (λ c. search rules)
     (λ c κs. search rules) (λ c. search rules) (λ c κs. search rules) (λ c. search rules) (λ c κs. search rules)
-    (λ c. c.accept.ensures ∙ ap (join_numbers _) (sym c.before.before.a-1.given.1))
-    (λ c. c.refuse.ensures ∙ ap (join_numbers _) (sym c.before.enum_told-1.given.1))
-    (λ c. c.refuse-in-BadRecord.ensures ∙ ap (join_numbers _) (sym c.before.before.a-in-BadRecord-1.given.1))
-    (λ c. c.refuse-in-OutOfOrder.ensures ∙ ap (join_numbers _) (sym c.before.before.a-in-OutOfOrder-1.given.1))
-    (λ c. c.refuse-in-BufferShort.ensures ∙ ap (join_numbers _) (sym c.before.enum_told-in-BufferShort-1.given.1)))
+    (λ c. c.accept.ensures ∙ ap (join_numbers _) (sym c.before.before.a.given.1))
+    (λ c. c.refuse.ensures ∙ ap (join_numbers _) (sym c.before.enum_told.given.1))
+    (λ c. c.refuse-in-BadRecord.ensures ∙ ap (join_numbers _) (sym c.before.before.a2.given.1))
+    (λ c. c.refuse-in-OutOfOrder.ensures ∙ ap (join_numbers _) (sym c.before.before.a3.given.1))
+    (λ c. c.refuse-in-BufferShort.ensures ∙ ap (join_numbers _) (sym c.before.enum_told2.given.1)))

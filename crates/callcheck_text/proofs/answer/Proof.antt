@@ -26,7 +26,7 @@ no_gap_line c =
     let line = c.Put-refused.ensures in
     let at_gap = at_parse_gap in
     all_written (wrote line.0.0 line.1)
-    (no_gap _ (read_gap at_gap.before.head.ensures at_gap.parse_gap-first.ensures at_enum_told.enum_told-1.given.1))
+    (no_gap _ (read_gap at_gap.before.head.ensures at_gap.parse_gap-first.ensures at_enum_told.enum_told.given.1))
     (omega arith)
 
 gap_too_large_lem : tie.Need-returns-then-gap-ge4294967296
@@ -37,7 +37,7 @@ gap_too_large_lem c =
     let at_value = at_first in
     let at_gap = at_value.before.before in
     all_written (wrote line.0.0 line.1)
-    (wide_gap _ _ (read_gap at_gap.before.head.ensures at_gap.parse_gap-first.ensures at_value.first-1.given.1)
+    (wide_gap _ _ (read_gap at_gap.before.head.ensures at_gap.parse_gap-first.ensures at_value.first.given.1)
     (omega (arith, at_if1.if-gap-ge4294967296.true)))
     (omega arith)
 
@@ -48,7 +48,7 @@ call_lines c =
     let line = c.put_calls.ensures in
     let at_value = at_first in
     let at_gap = at_value.before.before in
-    let gap = at_value.first-1.given in
+    let gap = at_value.first.given in
     all_written (wrote (line.0.0 ∙ sym (zero-add _)) line.1)
     (ap (λ (l : List ℕ). ending_text gap.0.0 (lines_from (under gap.0.0) 2 (lines l) start)) c.before.tail.ensures
     ∙ good_gap _ _ (read_gap at_gap.before.head.ensures at_gap.parse_gap-first.ensures gap.1) at_if1.if-gap-ge4294967296.false)

@@ -10,5 +10,5 @@ chain_numbers_spec =
     tie.close
     (tie.spec
     (λ c. search rules) (λ c κs. search rules) (λ c. search rules) (λ c κs. search rules)
-    (λ c. c.accept.ensures ∙ sym (ap chain_numbers c.before.before.a-1.given.1))
-    (λ c. c.refusal_numbers.ensures ∙ sym (ap chain_numbers c.before.before.a-in-Refused-1.given.1)))
+    (λ c. c.accept.ensures ∙ sym (ap chain_numbers c.before.before.a.given.1))
+    (λ c. c.refusal_numbers.ensures ∙ sym (ap chain_numbers c.before.before.a2.given.1)))

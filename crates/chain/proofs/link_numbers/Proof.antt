@@ -10,5 +10,5 @@ link_numbers_spec =
     tie.close
     (tie.spec
     (λ c. search rules) (λ c κs. search rules) (λ c. search rules) (λ c κs. search rules)
-    (λ c. c.refuse.ensures ∙ sym (ap (link_numbers _) c.before.enum_told-1.given.1))
-    (λ c. c.refuse-in-NotEnded.ensures ∙ sym (ap (link_numbers _) c.before.enum_told-in-NotEnded-1.given.1)))
+    (λ c. c.refuse.ensures ∙ sym (ap (link_numbers _) c.before.enum_told.given.1))
+    (λ c. c.refuse-in-NotEnded.ensures ∙ sym (ap (link_numbers _) c.before.enum_told2.given.1)))

@@ -11,7 +11,7 @@ refusal_numbers_spec =
     (tie.spec
     (λ c. search rules) (λ c κs. search rules) (λ c. search rules) (λ c κs. search rules)
     (λ c. search rules) (λ c κs. search rules) (λ c. search rules) (λ c κs. search rules)
-    (λ c. c.refuse.ensures ∙ sym (ap refusal_numbers c.before.enum_told-1.given.1))
-    (λ c. c.refuse-in-NotRows.ensures ∙ sym (ap refusal_numbers c.before.enum_told-in-NotRows-1.given.1))
-    (λ c. c.fault_numbers.ensures ∙ sym (ap refusal_numbers c.before.before.why-1.given.1))
-    (λ c. c.link_numbers.ensures ∙ sym (ap refusal_numbers c.before.before.why-in-Link-1.given.1)))
+    (λ c. c.refuse.ensures ∙ sym (ap refusal_numbers c.before.enum_told.given.1))
+    (λ c. c.refuse-in-NotRows.ensures ∙ sym (ap refusal_numbers c.before.enum_told2.given.1))
+    (λ c. c.fault_numbers.ensures ∙ sym (ap refusal_numbers c.before.before.why.given.1))
+    (λ c. c.link_numbers.ensures ∙ sym (ap refusal_numbers c.before.before.why2.given.1)))

@@ -23,19 +23,19 @@ abbrev to_verdict : tie.In-Fine → tie.After-row_verdict
 to_verdict c = c.before.before
 
 fine_row : (c : tie.In-Fine) → let a = (to_start (to_verdict c)).args in Judged (ltb a.number RESIDUES) COLUMNS a.row.now
-fine_row c = is_fine _ _ _ (sym (to_verdict c).row_verdict.ensures ∙ c.enum_told-1.given.1)
+fine_row c = is_fine _ _ _ (sym (to_verdict c).row_verdict.ensures ∙ c.enum_told.given.1)
 
 returns_2 : tie.Need-returns-in-Fine
 returns_2 c =
     let told = c.before.before in
     let a = (to_start (to_verdict told)).args in
     let value = c.residue_with.ensures ∙ ap (λ (gap : ℕ). residue gap a.row.now a.number) c.before.parts_of.ensures.1 in
-    ap residue_numbers (ap Residue value ∙ judged _ _ _ (omega arith) (to_verdict told).row_verdict.ensures told.enum_told-1.given.1)
+    ap residue_numbers (ap Residue value ∙ judged _ _ _ (omega arith) (to_verdict told).row_verdict.ensures told.enum_told.given.1)
 
 returns_3 : tie.Need-returns-in-Refused
 returns_3 c =
     let verdict = c.before.before.before in
-    ap residue_numbers (judged _ _ _ (omega arith) verdict.row_verdict.ensures c.before.why-1.given.1)
+    ap residue_numbers (judged _ _ _ (omega arith) verdict.row_verdict.ensures c.before.why.given.1)
 
 pub residue_spec : {M : Type 1} → statement M
 residue_spec =

@@ -11,6 +11,6 @@ residue_numbers_spec =
     (tie.spec
     (λ c. search rules) (λ c κs. search rules) (λ c. search rules) (λ c κs. search rules) (λ c. search rules)
     (λ c κs. search rules)
-    (λ c. c.accept.ensures ∙ sym (ap residue_numbers c.before.before.a-1.given.1))
-    (λ c. c.refuse.ensures ∙ sym (ap residue_numbers c.before.enum_told-1.given.1))
-    (λ c. c.row_refusal_numbers.ensures ∙ sym (ap residue_numbers c.before.before.a-in-Refused-1.given.1)))
+    (λ c. c.accept.ensures ∙ sym (ap residue_numbers c.before.before.a.given.1))
+    (λ c. c.refuse.ensures ∙ sym (ap residue_numbers c.before.enum_told.given.1))
+    (λ c. c.row_refusal_numbers.ensures ∙ sym (ap residue_numbers c.before.before.a2.given.1)))

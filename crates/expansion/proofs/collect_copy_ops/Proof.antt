@@ -26,7 +26,7 @@ returns c =
     let kind = kind_of_place expanded in
     let known = kind.before.before.before in
     let a = known.before.before.args in
-    let l = lent a.bytes-1.now a.stamps-1.now a.ops-1.now a.accesses-1.now in
+    let l = lent a.bytes.now a.stamps.now a.ops.now a.accesses.now in
     let try : ℕ → Try = λ k. try_of (record { kind = k; stamp = a.timestamp; src = a.src; dst = a.dst; count = a.count }) l in
     let same = kind.kind_number.ensures in
     let done = expanded.expand.ensures in

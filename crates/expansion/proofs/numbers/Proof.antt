@@ -12,28 +12,28 @@ abbrev shown : ExpansionAnswer → Answer
 shown a = (expansion_numbers a).answer
 
 returns : tie.Need-returns-in-Expanded
-returns c = c.accept.ensures ∙ ap shown (sym c.before.before.a-1.given.1)
+returns c = c.accept.ensures ∙ ap shown (sym c.before.before.a.given.1)
 
 returns_2 : tie.Need-returns-in-GapTooLarge
-returns_2 c = c.refuse.ensures ∙ ap shown (sym c.before.enum_told-1.given.1)
+returns_2 c = c.refuse.ensures ∙ ap shown (sym c.before.enum_told.given.1)
 
 returns_3 : tie.Need-returns-in-BadWindow
-returns_3 c = c.refuse-in-BadWindow.ensures ∙ ap shown (sym c.before.enum_told-in-BadWindow-1.given.1)
+returns_3 c = c.refuse-in-BadWindow.ensures ∙ ap shown (sym c.before.enum_told2.given.1)
 
 returns_4 : tie.Need-returns-in-LastStamp
-returns_4 c = c.refuse-in-LastStamp.ensures ∙ ap shown (sym c.before.enum_told-in-LastStamp-1.given.1)
+returns_4 c = c.refuse-in-LastStamp.ensures ∙ ap shown (sym c.before.enum_told3.given.1)
 
 returns_5 : tie.Need-returns-in-NotGapApart
-returns_5 c = c.refuse-in-NotGapApart.ensures ∙ ap shown (sym c.before.enum_told-in-NotGapApart-1.given.1)
+returns_5 c = c.refuse-in-NotGapApart.ensures ∙ ap shown (sym c.before.enum_told4.given.1)
 
 returns_6 : tie.Need-returns-in-PastIndex
-returns_6 c = c.refuse-in-PastIndex.ensures ∙ ap shown (sym c.before.enum_told-in-PastIndex-1.given.1)
+returns_6 c = c.refuse-in-PastIndex.ensures ∙ ap shown (sym c.before.enum_told5.given.1)
 
 returns_7 : tie.Need-returns-in-OutsideWindow
-returns_7 c = c.refuse-in-OutsideWindow.ensures ∙ ap shown (sym c.before.enum_told-in-OutsideWindow-1.given.1)
+returns_7 c = c.refuse-in-OutsideWindow.ensures ∙ ap shown (sym c.before.enum_told6.given.1)
 
 returns_8 : tie.Need-returns-in-BufferShort
-returns_8 c = c.refuse-in-BufferShort.ensures ∙ ap shown (sym c.before.enum_told-in-BufferShort-1.given.1)
+returns_8 c = c.refuse-in-BufferShort.ensures ∙ ap shown (sym c.before.enum_told7.given.1)
 
 pub numbers_spec : {M : Type 1} → statement M
 numbers_spec =

@@ -9,5 +9,5 @@ numbers_spec =
     tie.close
     (tie.spec
     (λ c. search rules) (λ c κs. search rules) (λ c. search rules) (λ c κs. search rules)
-    (λ c. c.accept.ensures ∙ sym (ap field_numbers c.before.before.a-1.given.1))
-    (λ c. c.refuse.ensures ∙ sym (ap field_numbers c.before.before.a-in-NotElement-1.given.1)))
+    (λ c. c.accept.ensures ∙ sym (ap field_numbers c.before.before.a.given.1))
+    (λ c. c.refuse.ensures ∙ sym (ap field_numbers c.before.before.a2.given.1)))

@@ -9,8 +9,8 @@ good_record_spec =
     (tie.spec
     (λ c. search rules) (λ c κs. search rules) (λ c. search rules) (λ c κs. search rules) (λ c. search rules)
     (λ c κs. search rules) (λ c. search rules) (λ c κs. search rules) (λ c. search rules) (λ c κs. search rules)
-    (λ c. rw c.before.enum_told-1.given.1 c.good_op.ensures)
-    (λ c. rw c.before.enum_told-in-Access-1.given.1 c.good_access.ensures)
-    (λ c. rw c.before.enum_told-in-Register-1.given.1 c.good_register.ensures)
-    (λ c. rw c.before.enum_told-in-Call-1.given.1 c.good_call.ensures)
-    (λ c. rw c.before.enum_told-in-Entry-1.given.1 c.good_entry.ensures))
+    (λ c. rw c.before.enum_told.given.1 c.good_op.ensures)
+    (λ c. rw c.before.enum_told2.given.1 c.good_access.ensures)
+    (λ c. rw c.before.enum_told3.given.1 c.good_register.ensures)
+    (λ c. rw c.before.enum_told4.given.1 c.good_call.ensures)
+    (λ c. rw c.before.enum_told5.given.1 c.good_entry.ensures))

@@ -13,20 +13,20 @@ use Rattle.load.proofs.generate_load.Tie as tie
 returns : tie.Need-returns-then-wanted-gt-LIMIT
 returns c =
     let a = c.before.before.args in
-    too_many_lem a.s a.n a.calls-1.now (lt-ltb LIMIT a.n (omega arith))
+    too_many_lem a.s a.n a.calls.now (lt-ltb LIMIT a.n (omega arith))
 
 returns_2 : tie.Need-returns-then-room-wanted
 returns_2 c =
     let tested = c.before in
     let a = tested.before.before.args in
-    too_short a.s a.n a.calls-1.now (le-ltb LIMIT a.n (omega arith)) (lt-ltb _ (HANDED_WIDTH * a.n) (omega arith))
+    too_short a.s a.n a.calls.now (le-ltb LIMIT a.n (omega arith)) (lt-ltb _ (HANDED_WIDTH * a.n) (omega arith))
 
 returns_3 : tie.Need-returns-then-wanted-gt-LIMIT
 returns_3 c =
     let wrote = c.before.before in
     let tested = wrote.before.before in
     let a = tested.before.before.before.args in
-    let all = all_written a.s a.n a.calls-1.now (le-ltb LIMIT a.n (omega arith)) (le-ltb _ (HANDED_WIDTH * a.n) (omega arith)) in
+    let all = all_written a.s a.n a.calls.now (le-ltb LIMIT a.n (omega arith)) (le-ltb _ (HANDED_WIDTH * a.n) (omega arith)) in
     record { answer = all.answer; written = wrote.write_calls.ensures ∙ all.written }
 
 pub generate_load_spec : {M : Type 1} → statement M

@@ -11,6 +11,6 @@ numbers_spec =
     (tie.spec
     (λ c. search rules) (λ c κs. search rules) (λ c. search rules) (λ c κs. search rules) (λ c. search rules)
     (λ c κs. search rules)
-    (λ c. c.accept.ensures ∙ ap load_numbers (sym c.before.before.a-1.given.1))
-    (λ c. c.refuse.ensures ∙ ap load_numbers (sym c.before.enum_told-1.given.1))
-    (λ c. c.refuse-in-BufferShort.ensures ∙ ap load_numbers (sym c.before.enum_told-in-BufferShort-1.given.1)))
+    (λ c. c.accept.ensures ∙ ap load_numbers (sym c.before.before.a.given.1))
+    (λ c. c.refuse.ensures ∙ ap load_numbers (sym c.before.enum_told.given.1))
+    (λ c. c.refuse-in-BufferShort.ensures ∙ ap load_numbers (sym c.before.enum_told2.given.1)))

@@ -11,7 +11,7 @@ returns c =
     let lent = done.before.before in
     let a = lent.before.before.args in
     let e = done.look_up.ensures in
-    record { answer = ap (lookup_numbers 8) e.0; written = e.1 ∙ ap (λ x. lookups_after a.accesses.now x a.lookups-1.now) e.0 }
+    record { answer = ap (lookup_numbers 8) e.0; written = e.1 ∙ ap (λ x. lookups_after a.accesses.now x a.lookups.now) e.0 }
 
 pub register_lookups_spec : {M : Type 1} → statement M
 register_lookups_spec = tie.close (tie.spec (λ c κs. search rules) (λ c. search rules) returns)

@@ -22,13 +22,13 @@ found c =
 
 fine_row : (c : tie.In-Fine) → let a = (to_start c.before.before).args in
     Judged (operands_in_row a.lhs a.rhs a.sum) COLUMNS a.row.now
-fine_row c = is_fine _ _ _ (sym (found c.before.before) ∙ c.enum_told-1.given.1)
+fine_row c = is_fine _ _ _ (sym (found c.before.before) ∙ c.enum_told.given.1)
 
 returns : tie.Need-returns-in-Fine
 unfolding carry_answer
 returns c =
     let told = c.before in
-    ap carry_numbers (ap Carry c.carries-c.ensures.1.0 ∙ answer_of _ _ (found told.before.before) told.enum_told-1.given.1)
+    ap carry_numbers (ap Carry c.carries-c.ensures.1.0 ∙ answer_of _ _ (found told.before.before) told.enum_told.given.1)
 
 pub add_pair_carry_hi_spec : {M : Type 1} → statement M
 unfolding carry_answer
@@ -39,4 +39,4 @@ add_pair_carry_hi_spec =
     (λ c κs. ((fine_row c).is_inside, (fine_row c).row_is))
     (λ c. search rules)
     returns
-    (λ c. let told = c.before in ap carry_numbers (answer_of _ _ (found told.before.before) told.why-1.given.1)))
+    (λ c. let told = c.before in ap carry_numbers (answer_of _ _ (found told.before.before) told.why.given.1)))

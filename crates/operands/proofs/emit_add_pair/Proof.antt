@@ -10,7 +10,7 @@ use Rattle.operands.proofs.emit_add_pair.Tie as tie
 
 pair_values_requires : tie.Need-pair_values-values-requires
 pair_values_requires c κs =
-    let f = pair_fine _ _ _ _ _ (sym c.before.before.pair_verdict.ensures ∙ c.enum_told-1.given.1) in
+    let f = pair_fine _ _ _ _ _ (sym c.before.before.pair_verdict.ensures ∙ c.enum_told.given.1) in
     (f.conditions_in, f.operands_in, f.row_is)
 
 returns : tie.Need-returns-in-Fine
@@ -20,13 +20,13 @@ returns c =
     let values = c.pair_values-values.ensures in
     ap pair_numbers
     ((λ i. Residues (values.0 i) (values.1.0 i))
-    ∙ answer_of _ _ told.before.before.pair_verdict.ensures told.enum_told-1.given.1)
+    ∙ answer_of _ _ told.before.before.pair_verdict.ensures told.enum_told.given.1)
 
 returns_2 : tie.Need-returns-in-Refused
 unfolding pair_answer
 returns_2 c =
     let told = c.before in
-    ap pair_numbers (answer_of _ _ told.before.before.pair_verdict.ensures told.why-1.given.1)
+    ap pair_numbers (answer_of _ _ told.before.before.pair_verdict.ensures told.why.given.1)
 
 pub emit_add_pair_spec : {M : Type 1} → statement M
 emit_add_pair_spec =

@@ -31,7 +31,7 @@ rows_of c =
     lent.before.before.before.args.rows.now
 
 fit : (c : tie.In-Passed) → RowsFit (rows_of (check_of c))
-fit c = passed_fit _ _ (ap (λ (x : ChainAnswer). (chain_numbers x).number) (sym (check_of c).check.ensures ∙ c.enum_told-1.given.1))
+fit c = passed_fit _ _ (ap (λ (x : ChainAnswer). (chain_numbers x).number) (sym (check_of c).check.ensures ∙ c.enum_told.given.1))
 
 holds : (c : tie.Else-not-holds) → c.before.holds.result ≡ true
 holds c = not-false _ c.if-not-holds.false
@@ -44,7 +44,7 @@ read_back_spec =
     (λ c κs. fit c)
     (λ c.
     let told = c.before.before in
-    short _ _ _ _ _ (sym (check_of told).check.ensures ∙ told.enum_told-1.given.1) (sym c.before.holds.ensures ∙ not-true _ c.if-not-holds.true))
+    short _ _ _ _ _ (sym (check_of told).check.ensures ∙ told.enum_told.given.1) (sym c.before.holds.ensures ∙ not-true _ c.if-not-holds.true))
     (λ c κs. let room = room_of c in (fit room.before.before, sym room.before.holds.ensures ∙ holds room))
     (λ c. search rules) (λ c. search rules) (λ c. search rules)
     (λ c.
@@ -52,6 +52,6 @@ read_back_spec =
     let room = room_of write.before in
     let told = room.before.before in
     let done = write.write-found.ensures in
-    read _ _ _ _ _ (sym (check_of told).check.ensures ∙ told.enum_told-1.given.1) (sym room.before.holds.ensures ∙ holds room) _
+    read _ _ _ _ _ (sym (check_of told).check.ensures ∙ told.enum_told.given.1) (sym room.before.holds.ensures ∙ holds room) _
     done.0 _ _ done.1.0 done.1.1)
-    (λ c. let why = c.before in refused _ _ _ _ _ (sym why.before.before.check.ensures ∙ why.why-1.given.1)))
+    (λ c. let why = c.before in refused _ _ _ _ _ (sym why.before.before.check.ensures ∙ why.why.given.1)))

@@ -26,8 +26,8 @@ read_back_numbers_spec =
     (λ c. search rules) (λ c κs. search rules) (λ c. search rules) (λ c κs. search rules) (λ c. search rules)
     (λ c κs. search rules)
     (λ c. let told = c.before.before.before in
-    told_numbers _ _ told.a-1.given.1 _ c.accept.ensures told.before.before.args.counts-1.now _ refl)
+    told_numbers _ _ told.a.given.1 _ c.accept.ensures told.before.before.args.counts.now _ refl)
     (λ c. let told = c.before.before in
-    told_numbers _ _ told.a-in-Refused-1.given.1 _ c.refusal_numbers.ensures told.before.before.args.counts-1.now _ (rw (refusal_numbered _)))
+    told_numbers _ _ told.a2.given.1 _ c.refusal_numbers.ensures told.before.before.args.counts.now _ (rw (refusal_numbered _)))
     (λ c. let told = c.before in
-    told_numbers _ _ told.enum_told-1.given.1 _ c.refuse.ensures told.before.before.args.counts-1.now _ refl))
+    told_numbers _ _ told.enum_told.given.1 _ c.refuse.ensures told.before.before.args.counts.now _ refl))

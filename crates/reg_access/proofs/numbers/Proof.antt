@@ -10,5 +10,5 @@ numbers_spec =
     tie.close
     (tie.spec
     (λ c. search rules) (λ c κs. search rules) (λ c. search rules) (λ c κs. search rules)
-    (λ c. c.access_numbers.ensures ∙ ap push_numbers (sym c.before.before.a-1.given.1))
-    (λ c. c.access_refused.ensures ∙ ap push_numbers (sym c.before.enum_told-1.given.1)))
+    (λ c. c.access_numbers.ensures ∙ ap push_numbers (sym c.before.before.a.given.1))
+    (λ c. c.access_refused.ensures ∙ ap push_numbers (sym c.before.enum_told.given.1)))

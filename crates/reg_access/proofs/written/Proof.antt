@@ -8,19 +8,19 @@ returns : tie.Need-returns-in-General
 unfolding built
 returns c =
     let told = c.before in
-    rw (told.enum_told-1.given.1, c.register_access.ensures, told.before.before.bit-read.ensures)
+    rw (told.enum_told.given.1, c.register_access.ensures, told.before.before.bit-read.ensures)
 
 returns_2 : tie.Need-returns-in-Aligned
 unfolding built
 returns_2 c =
     let told = c.before in
-    rw (told.enum_told-in-Aligned-1.given.1, c.register_access-in-Aligned.ensures, told.before.before.bit-read.ensures)
+    rw (told.enum_told2.given.1, c.register_access-in-Aligned.ensures, told.before.before.bit-read.ensures)
 
 returns_3 : tie.Need-returns-in-Register
 unfolding built
 returns_3 c =
     let told = c.before in
-    rw (told.enum_told-in-Register-1.given.1, c.register_row.ensures, told.before.before.bit-read.ensures)
+    rw (told.enum_told3.given.1, c.register_row.ensures, told.before.before.bit-read.ensures)
 
 pub written_spec : {M : Type 1} → statement M
 written_spec =

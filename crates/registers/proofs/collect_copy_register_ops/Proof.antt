@@ -16,21 +16,21 @@ unfolding register_step
 returns c =
     let a = c.before.before.before.args in
     same_step c.step_memory.result (register_step a.kind a.timestamp a.src a.dst a.count a.state)
-    (rw c.before.enum_told-1.given.1 c.step_memory.ensures)
+    (rw c.before.enum_told.given.1 c.step_memory.ensures)
 
 returns_2 : tie.Need-returns-in-Set
 unfolding register_step
 returns_2 c =
     let a = c.before.before.before.args in
     same_step c.step_memory-in-Set.result (register_step a.kind a.timestamp a.src a.dst a.count a.state)
-    (rw c.before.enum_told-in-Set-1.given.1 c.step_memory-in-Set.ensures)
+    (rw c.before.enum_told2.given.1 c.step_memory-in-Set.ensures)
 
 returns_3 : tie.Need-returns-in-Write
 unfolding register_step
 returns_3 c =
     let a = c.before.before.before.args in
     same_step c.step_write.result (register_step a.kind a.timestamp a.src a.dst a.count a.state)
-    (rw c.before.enum_told-in-Write-1.given.1 c.step_write.ensures)
+    (rw c.before.enum_told3.given.1 c.step_write.ensures)
 
 pub collect_copy_register_ops_spec : {M : Type 1} → statement M
 collect_copy_register_ops_spec =

@@ -11,7 +11,7 @@ numbers_spec =
     (tie.spec
     (λ c. search rules) (λ c κs. search rules) (λ c. search rules) (λ c κs. search rules) (λ c. search rules)
     (λ c κs. search rules) (λ c. search rules) (λ c κs. search rules)
-    (λ c. c.accept.ensures ∙ ap step_numbers (sym c.before.before.a-1.given.1))
-    (λ c. c.refuse.ensures ∙ ap step_numbers (sym c.before.enum_told-1.given.1))
-    (λ c. c.refuse-in-PastIndex.ensures ∙ ap step_numbers (sym c.before.enum_told-in-PastIndex-1.given.1))
-    (λ c. c.refuse-in-NotStdout.ensures ∙ ap step_numbers (sym c.before.enum_told-in-NotStdout-1.given.1)))
+    (λ c. c.accept.ensures ∙ ap step_numbers (sym c.before.before.a.given.1))
+    (λ c. c.refuse.ensures ∙ ap step_numbers (sym c.before.enum_told.given.1))
+    (λ c. c.refuse-in-PastIndex.ensures ∙ ap step_numbers (sym c.before.enum_told2.given.1))
+    (λ c. c.refuse-in-NotStdout.ensures ∙ ap step_numbers (sym c.before.enum_told3.given.1)))

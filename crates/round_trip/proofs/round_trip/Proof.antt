@@ -36,11 +36,11 @@ abbrev trip_of_place : tie.After-slice_known-1 → Trip
 trip_of_place c =
     let a = c.before.before.args in
     trip_of a.gap a.calls.now
-    (trip_lent a.bytes-1.now a.stamps-1.now a.ops-1.now a.accesses-1.now a.table-1.now a.ops_back_lem.now a.calls_back_lem.now)
+    (trip_lent a.bytes.now a.stamps.now a.ops.now a.accesses.now a.table.now a.ops_back_lem.now a.calls_back_lem.now)
 
 -- what the types say
 typed_at : (c : tie.After-slice_known-1) → TypedTrip (trip_of_place c)
-typed_at c = record { gap = search rules; bytes = below_of 8 (trip_of_place c).lists.slices.bytes-1 (λ i. omega (arith, c.slice_known-1.given i)) }
+typed_at c = record { gap = search rules; bytes = below_of 8 (trip_of_place c).lists.slices.bytes (λ i. omega (arith, c.slice_known-1.given i)) }
 
 -- the answer, before anything is written
 foretold_at : (c : tie.After-foretell-answer) → c.foretell-answer.result ≡ foretold_of (trip_of_place (known_of c))
@@ -50,14 +50,14 @@ run_requires : tie.Need-run-requires
 run_requires c κs =
     let told = told_of c in
     let found = told.before.before in
-    may_run (trip_of_place (known_of found)) (typed_at (known_of found)) _ (foretold_at found) _ _ _ told.answer-1.given.1
+    may_run (trip_of_place (known_of found)) (typed_at (known_of found)) _ (foretold_at found) _ _ _ told.answer.given.1
 
 returns : tie.Need-returns-in-Passed
 returns c =
     let ran = ran_of c in
     let told = told_of ran.before in
     let found = told.before.before in
-    let is = sym told.answer-1.given.1 ∙ foretold_at found in
+    let is = sym told.answer.given.1 ∙ foretold_at found in
     ended_through (trip_of_place (known_of found)) (typed_at (known_of found)) _ is _ _ _ refl _ ran.run.ensures
 
 returns_2 : tie.Need-returns-in_default

@@ -11,8 +11,8 @@ numbers_spec =
     (tie.spec
     (λ c. search rules) (λ c. search rules) (λ c κs. search rules) (λ c. search rules) (λ c κs. search rules)
     (λ c. search rules) (λ c κs. search rules) (λ c. search rules) (λ c κs. search rules)
-    (λ c. ap (route_numbers _) (sym c.before.a-1.given.1))
-    (λ c. c.refused.ensures ∙ ap (route_numbers _) (sym c.before.enum_told-1.given.1))
-    (λ c. c.refused-in-BadRecord.ensures ∙ ap (route_numbers _) (sym c.before.before.a-in-BadRecord-1.given.1))
-    (λ c. c.refused-in-BadAddress.ensures ∙ ap (route_numbers _) (sym c.before.before.a-in-BadAddress-1.given.1))
-    (λ c. c.refused-in-BufferShort.ensures ∙ ap (route_numbers _) (sym c.before.enum_told-in-BufferShort-1.given.1)))
+    (λ c. ap (route_numbers _) (sym c.before.a.given.1))
+    (λ c. c.refused.ensures ∙ ap (route_numbers _) (sym c.before.enum_told.given.1))
+    (λ c. c.refused-in-BadRecord.ensures ∙ ap (route_numbers _) (sym c.before.before.a2.given.1))
+    (λ c. c.refused-in-BadAddress.ensures ∙ ap (route_numbers _) (sym c.before.before.a3.given.1))
+    (λ c. c.refused-in-BufferShort.ensures ∙ ap (route_numbers _) (sym c.before.enum_told2.given.1)))

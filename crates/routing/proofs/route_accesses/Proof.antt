@@ -20,7 +20,7 @@ returns c =
     let e = at_route.route.ensures in
     record {
       answer = ap (route_numbers 8) e.0;
-      lists = e.1 ∙ ap (λ x. lists_after a.accesses.now x (lists a.register-1.now a.aligned-1.now a.general-1.now)) e.0;
+      lists = e.1 ∙ ap (λ x. lists_after a.accesses.now x (lists a.register.now a.aligned.now a.general.now)) e.0;
     }
 
 pub route_accesses_spec : {M : Type 1} → statement M

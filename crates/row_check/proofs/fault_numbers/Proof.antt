@@ -10,6 +10,6 @@ fault_numbers_spec =
     tie.close
     (tie.spec
     (λ c. search rules) (λ c κs. search rules) (λ c. search rules) (λ c κs. search rules) (λ c. search rules)
-    (λ c. c.refuse.ensures ∙ sym (ap (fault_numbers _) c.before.enum_told-1.given.1))
-    (λ c. c.refuse-in-OutOfRange.ensures ∙ sym (ap (fault_numbers _) c.before.enum_told-in-OutOfRange-1.given.1))
-    (λ c. sym (ap (fault_numbers _) c.before.why-1.given.1)))
+    (λ c. c.refuse.ensures ∙ sym (ap (fault_numbers _) c.before.enum_told.given.1))
+    (λ c. c.refuse-in-OutOfRange.ensures ∙ sym (ap (fault_numbers _) c.before.enum_told2.given.1))
+    (λ c. sym (ap (fault_numbers _) c.before.why.given.1)))

@@ -10,6 +10,6 @@ place_in_spec =
     tie.close
     (tie.spec
     (λ c. search rules) (λ c κs. search rules) (λ c. search rules) (λ c. search rules)
-    (λ c. c.first_large.ensures ∙ sym (ap (place_in _) c.before.enum_told-1.given.1))
-    (λ c. sym (ap (place_in _) c.enum_told-in-OutOfRange-1.given.1))
-    (λ c. sym (ap (place_in _) c.enum_told-in-NotZero-1.given.1)))
+    (λ c. c.first_large.ensures ∙ sym (ap (place_in _) c.before.enum_told.given.1))
+    (λ c. sym (ap (place_in _) c.enum_told2.given.1))
+    (λ c. sym (ap (place_in _) c.enum_told3.given.1)))

@@ -18,9 +18,9 @@ row_check_spec =
     (λ c. search rules) (λ c. search rules) (λ c κs. search rules)
     (λ c.
     let found = c.before.before in
-    ap row_numbers (judged _ _ (omega arith) (omega arith) _ (sym found.row_fault.ensures ∙ c.enum_told-1.given.1)))
+    ap row_numbers (judged _ _ (omega arith) (omega arith) _ (sym found.row_fault.ensures ∙ c.enum_told.given.1)))
     (λ c.
     let told = c.before.before in
     let found = told.before.before in
-    ap (λ (place : ℕ). fault_numbers place told.why-1.given.0.0) c.IsPlace-in.ensures
-    ∙ ap row_numbers (judged _ _ (omega arith) (omega arith) _ (sym found.row_fault.ensures ∙ told.why-1.given.1))))
+    ap (λ (place : ℕ). fault_numbers place told.why.given.0.0) c.IsPlace-in.ensures
+    ∙ ap row_numbers (judged _ _ (omega arith) (omega arith) _ (sym found.row_fault.ensures ∙ told.why.given.1))))

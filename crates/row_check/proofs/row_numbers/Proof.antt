@@ -11,7 +11,7 @@ row_numbers_spec =
     (tie.spec
     (λ c. search rules) (λ c κs. search rules) (λ c. search rules) (λ c κs. search rules)
     (λ c. search rules) (λ c κs. search rules) (λ c. search rules) (λ c κs. search rules)
-    (λ c. c.accept.ensures ∙ sym (ap row_numbers c.before.enum_told-1.given.1))
-    (λ c. c.refuse.ensures ∙ sym (ap row_numbers c.before.enum_told-in-GapTooLarge-1.given.1))
-    (λ c. c.refuse-in-NotRow.ensures ∙ sym (ap row_numbers c.before.enum_told-in-NotRow-1.given.1))
-    (λ c. c.fault_numbers.ensures ∙ sym (ap row_numbers c.before.before.a-1.given.1)))
+    (λ c. c.accept.ensures ∙ sym (ap row_numbers c.before.enum_told.given.1))
+    (λ c. c.refuse.ensures ∙ sym (ap row_numbers c.before.enum_told2.given.1))
+    (λ c. c.refuse-in-NotRow.ensures ∙ sym (ap row_numbers c.before.enum_told3.given.1))
+    (λ c. c.fault_numbers.ensures ∙ sym (ap row_numbers c.before.before.a.given.1)))

@@ -78,30 +78,30 @@ behind₄ c = c.tail-from_stamp.ensures ∙ ap (after 9) (behind₃ (to_dst (dst
 
 -- the fields that were read
 
-kind_at : (c : tie.In-Known-2) → word_of (before 9 (line c)) ≡ Known c.word-1.given.0.0
+kind_at : (c : tie.In-Known-2) → word_of (before 9 (line c)) ≡ Known c.word.given.0.0
 kind_at c =
     let read = c.before.before in
-    read_word read.before.head.ensures read.parse_word-word.ensures c.word-1.given.1
+    read_word read.before.head.ensures read.parse_word-word.ensures c.word.given.1
 
-stamp_at_lem : (c : tie.In-Number-2) → number_of (before 9 (after 9 (line (word_of_place (to_stamp c))))) ≡ Number c.first-1.given.0.0
+stamp_at_lem : (c : tie.In-Number-2) → number_of (before 9 (after 9 (line (word_of_place (to_stamp c))))) ≡ Number c.first.given.0.0
 stamp_at_lem c =
     let read = c.before.before in
-    read_number (read.before.head-2.ensures ∙ ap (before 9) (to_stamp c).tail-from_stamp.ensures) read.parse_number-first.ensures c.first-1.given.1
+    read_number (read.before.head-2.ensures ∙ ap (before 9) (to_stamp c).tail-from_stamp.ensures) read.parse_number-first.ensures c.first.given.1
 
-src_at : (c : tie.In-Number-second-2) → number_of (before 9 (after 9 (after 9 (line₂ (to_src c))))) ≡ Number c.second-1.given.0.0
+src_at : (c : tie.In-Number-second-2) → number_of (before 9 (after 9 (after 9 (line₂ (to_src c))))) ≡ Number c.second.given.0.0
 src_at c =
     let read = c.before.before in
-    read_number (read.before.head-3.ensures ∙ ap (before 9) (behind₂ (to_src c))) read.parse_number-second.ensures c.second-1.given.1
+    read_number (read.before.head-3.ensures ∙ ap (before 9) (behind₂ (to_src c))) read.parse_number-second.ensures c.second.given.1
 
-dst_at : (c : tie.In-Number-third-2) → number_of (before 9 (after 9 (after 9 (after 9 (line₃ (to_dst c)))))) ≡ Number c.third-1.given.0.0
+dst_at : (c : tie.In-Number-third-2) → number_of (before 9 (after 9 (after 9 (after 9 (line₃ (to_dst c)))))) ≡ Number c.third.given.0.0
 dst_at c =
     let read = c.before.before in
-    read_number (read.before.head-4.ensures ∙ ap (before 9) (behind₃ (to_dst c))) read.parse_number-third.ensures c.third-1.given.1
+    read_number (read.before.head-4.ensures ∙ ap (before 9) (behind₃ (to_dst c))) read.parse_number-third.ensures c.third.given.1
 
 no_kind : tie.Need-returns-in_default
 no_kind c =
     let read = c.before.before in
-    call_unknown _ (read_word read.before.head.ensures read.parse_word-word.ensures c.enum_told-1.given.1)
+    call_unknown _ (read_word read.before.head.ensures read.parse_word-word.ensures c.enum_told.given.1)
 
 no_stamp : tie.Need-returns-in_default-first
 no_stamp c =
@@ -109,7 +109,7 @@ no_stamp c =
     let cut = read.before.before in
     let from = cut.tail-from_stamp.ensures in
     call_no_stamp _ _ (kind_at (word_of_place cut))
-    (read_number (read.before.head-2.ensures ∙ ap (before 9) from) read.parse_number-first.ensures c.enum_told-in_default-first-1.given.1)
+    (read_number (read.before.head-2.ensures ∙ ap (before 9) from) read.parse_number-first.ensures c.enum_told2.given.1)
 
 no_src : tie.Need-returns-in_default-second
 no_src c =
@@ -117,7 +117,7 @@ no_src c =
     let cut = read.before.before in
     let stamp = stamp_of_place cut in
     call_no_src _ _ _ (kind_at (word_of_place (to_stamp stamp))) (stamp_at_lem stamp)
-    (read_number (read.before.head-3.ensures ∙ ap (before 9) (behind₂ cut)) read.parse_number-second.ensures c.enum_told-in_default-second-1.given.1)
+    (read_number (read.before.head-3.ensures ∙ ap (before 9) (behind₂ cut)) read.parse_number-second.ensures c.enum_told3.given.1)
 
 no_dst : tie.Need-returns-in_default-third
 no_dst c =
@@ -126,7 +126,7 @@ no_dst c =
     let src = src_of cut in
     let stamp = stamp_of_place (to_src src) in
     call_no_dst _ _ _ _ (kind_at (word_of_place (to_stamp stamp))) (stamp_at_lem stamp) (src_at src)
-    (read_number (read.before.head-4.ensures ∙ ap (before 9) (behind₃ cut)) read.parse_number-third.ensures c.enum_told-in_default-third-1.given.1)
+    (read_number (read.before.head-4.ensures ∙ ap (before 9) (behind₃ cut)) read.parse_number-third.ensures c.enum_told4.given.1)
 
 no_count : tie.Need-returns-in_default-fourth
 no_count c =
@@ -135,7 +135,7 @@ no_count c =
     let src = src_of (to_dst dst) in
     let stamp = stamp_of_place (to_src src) in
     call_no_count _ _ _ _ _ (kind_at (word_of_place (to_stamp stamp))) (stamp_at_lem stamp) (src_at src) (dst_at dst)
-    (read_number (behind₄ read.before) read.parse_number-fourth.ensures c.enum_told-in_default-fourth-1.given.1)
+    (read_number (behind₄ read.before) read.parse_number-fourth.ensures c.enum_told5.given.1)
 
 whole : tie.Need-returns-in_default
 whole c =
@@ -144,7 +144,7 @@ whole c =
     let src = src_of (to_dst dst) in
     let stamp = stamp_of_place (to_src src) in
     call_whole _ _ _ _ _ _ (kind_at (word_of_place (to_stamp stamp))) (stamp_at_lem stamp) (src_at src) (dst_at dst)
-    (read_number (behind₄ read.before) read.parse_number-fourth.ensures c.before.fourth-1.given.1)
+    (read_number (behind₄ read.before) read.parse_number-fourth.ensures c.before.fourth.given.1)
 
 pub parse_call_spec : {M : Type 1} → statement M
 parse_call_spec =

@@ -27,7 +27,7 @@ stops : tie.Need-returns-in_default invariant_loop decreases_loop
 stops c =
     let at_push_digit = c.before.before in
     let at = at_push_digit.before.before.before in
-    sym (at.loop-i.invariant.1 ∙ number_stop (text at) at.loop-i.value at.loop-i.i _ (omega arith) at_push_digit.push_digit-longer.ensures c.enum_told-1.given.1)
+    sym (at.loop-i.invariant.1 ∙ number_stop (text at) at.loop-i.value at.loop-i.i _ (omega arith) at_push_digit.push_digit-longer.ensures c.enum_told.given.1)
 
 loop_again : tie.Need-loop-i-preserved invariant_loop decreases_loop
 loop_again c =
@@ -35,7 +35,7 @@ loop_again c =
     let at = at_push_digit.before.before.before in (
       search rules,
       at.loop-i.invariant.1
-          ∙ number_more (text at) at.loop-i.value at.loop-i.i _ _ (omega arith) at_push_digit.push_digit-longer.ensures c.before.longer-1.given.1,
+          ∙ number_more (text at) at.loop-i.value at.loop-i.i _ _ (omega arith) at_push_digit.push_digit-longer.ensures c.before.longer.given.1,
     )
 
 pub parse_number_spec : {M : Type 1} → statement M

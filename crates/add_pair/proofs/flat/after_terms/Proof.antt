@@ -19,7 +19,7 @@ returns : tie.Need-returns-in_default invariant_loop decreases_loop
 returns c =
     let walked = c.before.before in
     let turn = walked.before in
-    walk_stops _ _ _ _ _ turn.before.loop-k.invariant.1 turn.loop-k-test.true walked.after_term-next.ensures c.enum_told-1.given.1
+    walk_stops _ _ _ _ _ turn.before.loop-k.invariant.1 turn.loop-k-test.true walked.after_term-next.ensures c.enum_told.given.1
 
 loop_again : tie.Need-loop-k-preserved invariant_loop decreases_loop
 loop_again c =
@@ -27,7 +27,7 @@ loop_again c =
     let walked = told.before.before in
     let turn = walked.before in (
       omega arith,
-      walk_goes_on _ _ _ _ _ turn.before.loop-k.invariant.1 turn.loop-k-test.true walked.after_term-next.ensures told.next-1.given.1,
+      walk_goes_on _ _ _ _ _ turn.before.loop-k.invariant.1 turn.loop-k-test.true walked.after_term-next.ensures told.next.given.1,
     )
 
 pub after_terms_spec : {M : Type 1} → statement M

@@ -11,5 +11,5 @@ is_end_spec =
     tie.close
     (tie.spec
     (λ c. search rules) (λ c. search rules)
-    (λ c. sym (ap (is_end _) c.enum_told-1.given.1))
-    (λ c. sym (ap (is_end _) c.before.place-1.given.1)))
+    (λ c. sym (ap (is_end _) c.enum_told.given.1))
+    (λ c. sym (ap (is_end _) c.before.place.given.1)))

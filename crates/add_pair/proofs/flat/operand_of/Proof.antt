@@ -9,10 +9,10 @@ use Rattle.add_pair.proofs.flat.operand_of.Tie as tie
 returns_2 : tie.Need-returns-in-Sums
 unfolding operand_of
 returns_2 c =
-    let m = c.before.before.before.form-in-Sums-1.given.0.0 in
-    let n = c.before.before.before.form-in-Sums-1.given.0.1.0 in
+    let m = c.before.before.before.form2.given.0.0 in
+    let n = c.before.before.before.form2.given.0.1.0 in
     (λ j. record { kind = kind.Sums m n; low = c.before.four_terms-low_terms.ensures j; high = c.four_terms-high_terms.ensures j })
-    ∙ sym (ap (operand_of _) c.before.before.before.form-in-Sums-1.given.1)
+    ∙ sym (ap (operand_of _) c.before.before.before.form2.given.1)
 
 pub operand_of_spec : {M : Type 1} → statement M
 unfolding operand_of
@@ -21,6 +21,6 @@ operand_of_spec =
     (tie.spec
     (λ c. search rules) (λ c κs. search rules) (λ c. search rules) (λ c κs. search rules) (λ c κs. search rules)
     (λ c. search rules) (λ c κs. search rules)
-    (λ c. c.words_operand.ensures ∙ sym (ap (operand_of _) c.before.before.form-1.given.1))
+    (λ c. c.words_operand.ensures ∙ sym (ap (operand_of _) c.before.before.form.given.1))
     returns_2
-    (λ c. c.words_operand-in-Malformed.ensures ∙ sym (ap (operand_of _) c.before.enum_told-1.given.1)))
+    (λ c. c.words_operand-in-Malformed.ensures ∙ sym (ap (operand_of _) c.before.enum_told.given.1)))

@@ -9,13 +9,13 @@ returns_3 : tie.Need-returns-then-is_end
 returns_3 c =
     let at_end = c.before.before.before in
     let at_sum = at_end.before in
-    sums_end _ at_sum.before.before.before.place-1.given.1 at_sum.after_sum.ensures at_end.is_end.ensures
+    sums_end _ at_sum.before.before.before.place.given.1 at_sum.after_sum.ensures at_end.is_end.ensures
     c.before.before.if-is_end.true c.before.number.ensures refl
 
 returns_4 : tie.Need-returns-in_default
 returns_4 c =
     let at_sum = c.before.before in
-    sums_more _ at_sum.before.before.before.place-1.given.1 at_sum.after_sum.ensures
+    sums_more _ at_sum.before.before.before.place.given.1 at_sum.after_sum.ensures
     c.before.is_end.ensures c.if-is_end.false
 
 pub sums_form_spec : {M : Type 1} → statement M
@@ -23,8 +23,8 @@ sums_form_spec =
     tie.close
     (tie.spec
     (λ c. search rules) (λ c. search rules)
-    (λ c. sums_nowhere _ c.enum_told-1.given.1)
-    (λ c. sums_past _ c.before.before.place-1.given.1 c.if-list-i.true)
+    (λ c. sums_nowhere _ c.enum_told.given.1)
+    (λ c. sums_past _ c.before.before.place.given.1 c.if-list-i.true)
     (λ c κs. search rules) (λ c κs. search rules) (λ c κs. search rules) (λ c. search rules) (λ c. search rules)
     (λ c. search rules)
     returns_3

@@ -11,6 +11,6 @@ term_after_spec =
     tie.close
     (tie.spec
     (λ c. search rules) (λ c. search rules)
-    (λ c. sym (ap (term_after _) c.enum_told-1.given.1))
+    (λ c. sym (ap (term_after _) c.enum_told.given.1))
     (λ c κs. search rules)
-    (λ c. c.term_from.ensures ∙ sym (ap (term_after _) c.before.before.place-1.given.1)))
+    (λ c. c.term_from.ensures ∙ sym (ap (term_after _) c.before.before.place.given.1)))

@@ -21,8 +21,8 @@ write_joined_requires c κs =
     let told = c.before in
     let answered = told.before.before in
     let a = (start_of answered).args in
-    let f = joined_facts a.limit a.first.now a.second.now (length a.joined-1.now) _
-    (sym answered.join_answer-answer.ensures ∙ told.enum_told-1.given.1) in
+    let f = joined_facts a.limit a.first.now a.second.now (length a.joined.now) _
+    (sym answered.join_answer-answer.ensures ∙ told.enum_told.given.1) in
     (good_list_whole a.first.now f.good_first, good_list_whole a.second.now f.good_second, f.fits)
 
 returns : tie.Need-returns-in-Joined
@@ -32,13 +32,13 @@ returns c =
     let told = wrote.before.before in
     let answered = told.before.before in
     let a = (start_of answered).args in
-    let same = ap (λ (x : JoinAnswer). joined_after a.first.now a.second.now x a.joined-1.now) (sym told.enum_told-1.given.1) in
+    let same = ap (λ (x : JoinAnswer). joined_after a.first.now a.second.now x a.joined.now) (sym told.enum_told.given.1) in
     (answered.join_answer-answer.ensures, wrote.write_joined.ensures ∙ same)
 
 returns_2 : tie.Need-returns-in_default
 returns_2 c =
     let a = (start_of c.before).args in
-    (c.before.join_answer-answer.ensures, refused_keeps a.first.now a.second.now a.joined-1.now _ c.match.keys2)
+    (c.before.join_answer-answer.ensures, refused_keeps a.first.now a.second.now a.joined.now _ c.match.keys2)
 
 pub join_spec : {M : Type 1} → statement M
 join_spec =

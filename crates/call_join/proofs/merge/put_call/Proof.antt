@@ -13,7 +13,7 @@ returns c =
     let put = c.before.before in
     let known = put.before.before.before in
     let a = known.before.before.args in
-    put.put_at.ensures ∙ ap (store a.joined-1.now (HANDED_WIDTH * a.end)) (record_part HANDED_WIDTH a.calls.now a.k)
+    put.put_at.ensures ∙ ap (store a.joined.now (HANDED_WIDTH * a.end)) (record_part HANDED_WIDTH a.calls.now a.k)
 
 pub put_call_spec : {M : Type 1} → statement M
 put_call_spec =

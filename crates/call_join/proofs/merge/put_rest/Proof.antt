@@ -18,7 +18,7 @@ returns c =
     let l = a.calls.now in
     let rest = drop (HANDED_WIDTH * a.k) l in
     put.put_at.ensures
-    ∙ ap (store a.joined-1.now (HANDED_WIDTH * a.end)) (take_all (length l - HANDED_WIDTH * a.k) rest (rw length-drop (omega arith)))
+    ∙ ap (store a.joined.now (HANDED_WIDTH * a.end)) (take_all (length l - HANDED_WIDTH * a.k) rest (rw length-drop (omega arith)))
 
 pub put_rest_spec : {M : Type 1} → statement M
 put_rest_spec =

@@ -78,13 +78,13 @@ loop_again c =
     let l = (at t).loop-i in
     let a = first (at t) in
     let b = second (at t) in (
-      ap length put.put_call.ensures ∙ length_store l.joined-1 _ _ ∙ l.inv.0,
+      ap length put.put_call.ensures ∙ length_store l.joined _ _ ∙ l.inv.0,
       l.inv.1,
       l.inv.2,
       omega (arith, left_first t, l.inv.1),
       l.inv.4,
       ap (gone_on a b (l.i + 1) l.j) put.put_call.ensures
-          ∙ goes_first a b l.i l.j (left_first t) (left_second t) (start_of (at t)).pre.0 (omega arith) l.joined-1
+          ∙ goes_first a b l.i l.j (left_first t) (left_second t) (start_of (at t)).pre.0 (omega arith) l.joined
           ∙ l.inv.5,
     )
 
@@ -96,13 +96,13 @@ loop_again_2 c =
     let l = (at t).loop-i in
     let a = first (at t) in
     let b = second (at t) in (
-      ap length put.put_call-in-loop-i.ensures ∙ length_store l.joined-1 _ _ ∙ l.inv.0,
+      ap length put.put_call-in-loop-i.ensures ∙ length_store l.joined _ _ ∙ l.inv.0,
       l.inv.1,
       l.inv.2,
       l.inv.3,
       omega (arith, left_second t, l.inv.2),
       ap (gone_on a b l.i (l.j + 1)) put.put_call-in-loop-i.ensures
-          ∙ goes_second a b l.i l.j (left_first t) (left_second t) (start_of (at t)).pre.1 (omega arith) l.joined-1
+          ∙ goes_second a b l.i l.j (left_first t) (left_second t) (start_of (at t)).pre.1 (omega arith) l.joined
           ∙ l.inv.5,
     )
 
@@ -131,9 +131,9 @@ put_rest_requires c κs = let l = c.before.before.loop-i in (omega arith, omega 
 
 -- the buffer with the rest of the first list in it
 with_first : (c : tie.After-put_rest invariant_loop decreases_loop) → let p = c.before.before.before in
-    length (store p.loop-i.joined-1 (HANDED_WIDTH * (p.loop-i.i + p.loop-i.j)) (drop (HANDED_WIDTH * p.loop-i.i) (first p)))
-    ≡ length (start_of p).args.joined-1.now
-with_first c = let p = c.before.before.before in length_store p.loop-i.joined-1 _ _ ∙ p.loop-i.invariant.0
+    length (store p.loop-i.joined (HANDED_WIDTH * (p.loop-i.i + p.loop-i.j)) (drop (HANDED_WIDTH * p.loop-i.i) (first p)))
+    ≡ length (start_of p).args.joined.now
+with_first c = let p = c.before.before.before in length_store p.loop-i.joined _ _ ∙ p.loop-i.invariant.0
 
 put_rest_requires_2 : tie.Need-put_rest-requires-2 invariant_loop decreases_loop
 put_rest_requires_2 c κs =
@@ -153,7 +153,7 @@ returns c =
     let b = second p in
     put_second.put_rest-2.ensures
     ∙ (λ k. store (put_first.put_rest.ensures k) (HANDED_WIDTH * (l.invariant.1 k + l.j)) (drop (HANDED_WIDTH * l.j) b))
-    ∙ going_end a b l.joined-1 (start_of p).requires.0 (start_of p).requires.1 l.i l.j
+    ∙ going_end a b l.joined (start_of p).requires.0 (start_of p).requires.1 l.i l.j
     (omega (arith, l.invariant.1)) (omega (arith, l.invariant.2)) (sym (λ k. ltb l.i (l.invariant.1 k) && ltb l.j (l.invariant.2 k)) ∙ over.loop-i-test.false)
     ∙ l.invariant.5
 

@@ -23,8 +23,8 @@ to_ran c =
     let told = c.before.before.before in
     told.before
 
-most : (c : tie.In-Done-2) → c.ran-1.given.0.0 ≤ ROWS
-most c = rows_most _ _ (to_lines c.before.before).run_lines-ran.ensures.0 c.ran-1.given.1
+most : (c : tie.In-Done-2) → c.ran.given.0.0 ≤ ROWS
+most c = rows_most _ _ (to_lines c.before.before).run_lines-ran.ensures.0 c.ran.given.1
 
 all_accepted : tie.Need-returns-in-Done
 all_accepted c =
@@ -32,7 +32,7 @@ all_accepted c =
     let ran = to_ran put.before in
     let line = put.put_done.ensures in
     let lines = (to_lines ran.before.before).run_lines-ran.ensures in
-    all_written (wrote (line.0.0 ∙ sym (zero-add _)) line.1) (ran_done _ _ _ _ lines.1 _ ran.ran-1.given.1) (omega arith)
+    all_written (wrote (line.0.0 ∙ sym (zero-add _)) line.1) (ran_done _ _ _ _ lines.1 _ ran.ran.given.1) (omega arith)
 
 line_refused : tie.Need-returns-in-Refused
 line_refused c =
@@ -40,7 +40,7 @@ line_refused c =
     let ran = put.before.before.before in
     let line = put.Put-refused.ensures in
     let lines = (to_lines ran.before.before).run_lines-ran.ensures in
-    all_written (wrote line.0.0 line.1) (ran_refused _ _ _ _ lines.1 _ _ ran.ran-in-Refused-1.given.1) (omega arith)
+    all_written (wrote line.0.0 line.1) (ran_refused _ _ _ _ lines.1 _ _ ran.ran2.given.1) (omega arith)
 
 pub put_calls_spec : {M : Type 1} → statement M
 put_calls_spec =

@@ -6,7 +6,7 @@ use Rattle.callcheck_text.proofs.run.run_line.Statement.{statement}
 use Rattle.callcheck_text.proofs.run.run_line.Tie as tie
 
 other_form : tie.Need-returns-in_default
-other_form c = step_other _ _ _ (sym c.before.before.parse-Call.ensures ∙ c.enum_told-1.given.1)
+other_form c = step_other _ _ _ (sym c.before.before.parse-Call.ensures ∙ c.enum_told.given.1)
 
 -- Places: the call seen from behind the four slices, and the line seen from the call
 
@@ -25,7 +25,7 @@ refused_call : tie.Need-returns-in_default-answer
 refused_call c =
     let call = to_call c.before.before in
     let line = to_line call in
-    let told = sym line.before.before.parse-Call.ensures ∙ line.line-1.given.1 in
+    let told = sym line.before.before.parse-Call.ensures ∙ line.line.given.1 in
     let done = call.collect_copy_ops-answer in
     step_stop _ _ _ _ _ _ _ _ _ told done.result done.ensures _ c.numbers.ensures c.before.match2.keys2
 
@@ -34,9 +34,9 @@ accepted_call c =
     let answer = c.before in
     let call = to_call answer.before.before in
     let line = to_line call in
-    let told = sym line.before.before.parse-Call.ensures ∙ line.line-1.given.1 in
+    let told = sym line.before.before.parse-Call.ensures ∙ line.line.given.1 in
     let done = call.collect_copy_ops-answer in
-    step_rows_lem _ _ _ _ _ _ _ _ _ told done.result done.ensures _ _ answer.answer-1.given.1
+    step_rows_lem _ _ _ _ _ _ _ _ _ told done.result done.ensures _ _ answer.answer.given.1
 
 pub run_line_spec : {M : Type 1} → statement M
 run_line_spec =

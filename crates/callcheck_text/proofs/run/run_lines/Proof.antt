@@ -39,13 +39,13 @@ line_of c =
 
 -- the four slices at the entry, and at the head of the loop
 abbrev l₀_of : tie.Start invariant_loop decreases_loop → Lent
-l₀_of c = lent c.args.bytes-1.now c.args.stamps-1.now c.args.ops-1.now c.args.accesses-1.now
+l₀_of c = lent c.args.bytes.now c.args.stamps.now c.args.ops.now c.args.accesses.now
 
 abbrev l_of : tie.At-loop-at invariant_loop decreases_loop → Lent
-l_of c = lent c.loop-at.bytes-1 c.loop-at.stamps-1 c.loop-at.ops-1 c.loop-at.accesses-1
+l_of c = lent c.loop-at.bytes c.loop-at.stamps c.loop-at.ops c.loop-at.accesses
 
 -- the record buffer keeps its length
-ops_room : (c : tie.At-loop-at invariant_loop decreases_loop) → length c.loop-at.ops-1 ≡ OPS_ROOM
+ops_room : (c : tie.At-loop-at invariant_loop decreases_loop) → length c.loop-at.ops ≡ OPS_ROOM
 ops_room c = c.loop-at.invariant.ops_same ∙ (start_of c).requires.0
 
 few_rows : (c : tie.At-loop-at invariant_loop decreases_loop) → c.loop-at.rows ≤ 32
@@ -71,13 +71,13 @@ line_refused c =
     let told = c.before in
     let line = line_of told.before.before in
     let at = loop_of (head_of line) in
-    (omega arith, turn_stops (turn_at line) _ _ told.step-1.given.1 ∙ at.loop-at.inv.goes_on)
+    (omega arith, turn_stops (turn_at line) _ _ told.step.given.1 ∙ at.loop-at.inv.goes_on)
 
 add_rows : tie.Need-overflow_add-rows invariant_loop decreases_loop
 add_rows c =
     let told = c.before in
     let line = line_of told.before.before in
-    let fits = turn_fits (turn_at line) _ told.step-in-Rows-1.given.1 0 in
+    let fits = turn_fits (turn_at line) _ told.step2.given.1 0 in
     omega (arith, fits.1, ops_room (loop_of (head_of line)))
 
 loop_again : tie.Need-loop-at-preserved invariant_loop decreases_loop
@@ -85,7 +85,7 @@ loop_again c =
     let told = c.before.before in
     let line = line_of told.before.before in
     let at = loop_of (head_of line) in
-    running_turn (l₀_of (start_of at)) at.loop-at.line at.loop-at.inv (turn_at line) _ told.step-in-Rows-1.given.1 _ line.run_line-step.ensures.1
+    running_turn (l₀_of (start_of at)) at.loop-at.line at.loop-at.inv (turn_at line) _ told.step2.given.1 _ line.run_line-step.ensures.1
     c.next_line-at.result c.next_line-at.ensures.1 c.next_line-at.ensures.2
 
 all_read : tie.Need-returns-in-Stop invariant_loop decreases_loop

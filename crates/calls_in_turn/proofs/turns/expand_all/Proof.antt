@@ -17,7 +17,7 @@ decreases_loop gap calls bytes₀ stamps₀ ops₀ accesses₀ n done₀ k₀ by
 
 -- the four slices at the entry
 abbrev l_of : tie.Start invariant_loop decreases_loop → Lent
-l_of c = lent c.args.bytes-1.now c.args.stamps-1.now c.args.ops-1.now c.args.accesses-1.now
+l_of c = lent c.args.bytes.now c.args.stamps.now c.args.ops.now c.args.accesses.now
 
 -- places: the entry seen from the count, and the call of `expand_next` seen from the end of a turn
 abbrev start_of : tie.After-record_count-n invariant_loop decreases_loop → tie.Start invariant_loop decreases_loop
@@ -42,7 +42,7 @@ loop_holds c =
     going_start (under start.args.gap) start.args.calls.now (l_of start) _ c.record_count-n.ensures
 
 -- the record buffer is a slice
-ops_small : (start : tie.Start invariant_loop decreases_loop) → length start.args.ops-1.now < 2 ^ 64
+ops_small : (start : tie.Start invariant_loop decreases_loop) → length start.args.ops.now < 2 ^ 64
 ops_small start = search rules
 
 add_done : tie.Need-overflow_add-done invariant_loop decreases_loop

@@ -12,7 +12,7 @@ use Rattle.calls_in_turn.proofs.turns.expand_next.Tie as tie
 
 -- the four slices at the entry
 abbrev l_of : tie.Start → Lent
-l_of c = lent c.args.bytes-1.now c.args.stamps-1.now c.args.ops-1.now c.args.accesses-1.now
+l_of c = lent c.args.bytes.now c.args.stamps.now c.args.ops.now c.args.accesses.now
 
 -- places: the entry seen from the test of the call, and the call of `expand` seen from the end
 abbrev start_of : tie.After-good_call → tie.Start

@@ -74,7 +74,7 @@ wide c = ap length (is c) ∙ row_length (rows_of (row_top c)) (row_top c).rows.
 
 -- What is asked about
 
-asked : (c : Met) → let top = met_top c in Asked (gap_of top) (rows_of top) top.rows.k c.if-k-n.row-1.now
+asked : (c : Met) → let top = met_top c in Asked (gap_of top) (rows_of top) top.rows.k c.if-k-n.row.now
 asked c =
     ⊎_elim
     (λ w.
@@ -105,18 +105,18 @@ check_spec =
     (λ c.
     let link = c.before.before.before in
     from_end _ _ _ _ (walk (met_top link.before)) _ (asked link.before) (omega arith)
-    (sym link.link_check.ensures ∙ c.before.enum_told-in_default-link_check-1.given.1))
+    (sym link.link_check.ensures ∙ c.before.enum_told2.given.1))
     (λ c. search rules) (λ c. search rules)
     (λ c.
     let link = c.before.before.before in
     walk_on _ _ _ _ (walk (met_top link.before)) _ (omega arith) (asked link.before) (omega arith)
-    (sym link.link_check.ensures ∙ c.before.enum_told-in_default-link_check-1.given.1))
+    (sym link.link_check.ensures ∙ c.before.enum_told2.given.1))
     (λ c.
     let told = c.before in
     let found = told.before.before in
     let row = found.before in
-    from_row _ _ _ _ (walk (row_top row)) (omega arith) _ (is row) _ (sym found.row_fault.ensures ∙ told.why-1.given.1))
+    from_row _ _ _ _ (walk (row_top row)) (omega arith) _ (is row) _ (sym found.row_fault.ensures ∙ told.why.given.1))
     (λ c.
     let told = c.before in
     let link = told.before.before in
-    from_link _ _ _ _ (walk (met_top link.before)) _ (asked link.before) _ (sym link.link_check.ensures ∙ told.why-in-Unlinked-1.given.1)))
+    from_link _ _ _ _ (walk (met_top link.before)) _ (asked link.before) _ (sym link.link_check.ensures ∙ told.why2.given.1)))

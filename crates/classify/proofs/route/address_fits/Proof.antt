@@ -8,4 +8,4 @@ address_fits_spec =
     tie.close
     (tie.spec
     (λ c. search rules) (λ c. search rules) (λ c. search rules) (λ c. search rules) (λ c. search rules)
-    (λ c. rw c.enum_told-in-Register-1.given.1))
+    (λ c. rw c.enum_told3.given.1))

@@ -21,7 +21,7 @@ row_of_lem : (o : Op) {stamp src next_src dst next_dst count next_count res : Li
     → res ≡ halves (dst_res o.call) → single ≡ bit (eqb o.piece.width 1) → set ≡ bit (eqb o.call.kind 1)
     → write ≡ bit (eqb o.call.kind 2) → first ≡ cond (eqb o.call.kind 2) o.first 0 → commits ≡ bit (mu_com o.call)
     → wide ≡ bit (mu_com o.call && eqb o.piece.width 8)
-    → numbers_at stamp 0 2 ++ eight_at o.piece.value-1 0 ++ numbers_at src 0 2 ++ numbers_at next_src 0 4 ++ numbers_at dst 0 2
+    → numbers_at stamp 0 2 ++ eight_at o.piece.value 0 ++ numbers_at src 0 2 ++ numbers_at next_src 0 4 ++ numbers_at dst 0 2
     ++ numbers_at next_dst 0 4 ++ numbers_at count 0 2 ++ numbers_at next_count 0 4 ++ numbers_at res 0 4
     ++ (o.first ∷ o.end ∷ single ∷ set ∷ write ∷ first ∷ 1 ∷ commits ∷ wide ∷ [])
     ≡ table_row o

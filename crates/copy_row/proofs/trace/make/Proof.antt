@@ -20,8 +20,8 @@ write_rows_requires c κs =
     let answered = told.before.before in
     let args = answered.before.before.before.args in
     let ops = args.ops.now in
-    let room = length args.table-1.now in
-    let made = sym answered.copy_answer-answer.ensures ∙ told.answer-1.given.1 in
+    let room = length args.table.now in
+    let made = sym answered.copy_answer-answer.ensures ∙ told.answer.given.1 in
     (made_whole args.limit ops room _ made, (made_facts args.limit ops room _ made).fits)
 
 returns : tie.Need-returns-in-Made
@@ -30,8 +30,8 @@ returns c =
     let told = wrote.before.before.before in
     let answered = told.before.before in
     let args = answered.before.before.before.args in
-    let made = sym told.answer-1.given.1 ∙ answered.copy_answer-answer.ensures in
-    let after : TableAnswer → List ℕ = λ a. copy_after args.ops.now a args.table-1.now in
+    let made = sym told.answer.given.1 ∙ answered.copy_answer-answer.ensures in
+    let after : TableAnswer → List ℕ = λ a. copy_after args.ops.now a args.table.now in
     (made, wrote.write_rows.ensures ∙ ap after made)
 
 returns_2 : tie.Need-returns-in_default
@@ -40,8 +40,8 @@ returns_2 c =
     let answered = c.before in
     let args = answered.before.before.before.args in
     let made = answered.copy_answer-answer.ensures in
-    let after : TableAnswer → List ℕ = λ a. copy_after args.ops.now a args.table-1.now in
-    (made, refused_keeps OP_WIDTH copy_row padding_row args.ops.now args.table-1.now _ c.match.keys2 ∙ ap after made)
+    let after : TableAnswer → List ℕ = λ a. copy_after args.ops.now a args.table.now in
+    (made, refused_keeps OP_WIDTH copy_row padding_row args.ops.now args.table.now _ c.match.keys2 ∙ ap after made)
 
 pub make_spec : {M : Type 1} → statement M
 make_spec =

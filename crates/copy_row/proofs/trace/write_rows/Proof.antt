@@ -22,7 +22,7 @@ decreases_loop ops table₀ rows n k₀ table k = rows - k
 loop_holds : tie.Need-loop-k-init invariant_loop decreases_loop
 loop_holds c =
     let start = c.before.before.before in
-    (omega arith, refl, sym (no_rows start.args.ops.now start.args.table-1.now))
+    (omega arith, refl, sym (no_rows start.args.ops.now start.args.table.now))
 
 write_row_requires : tie.Need-write_row-requires invariant_loop decreases_loop
 write_row_requires c κs = (
@@ -36,16 +36,16 @@ loop_again c =
     let at_count = at.before in
     let start = at_count.before.before.before in
     let ops = start.args.ops.now in
-    let table₀ = start.args.table-1.now in
+    let table₀ = start.args.table.now in
     let k = at.loop-k.k in
-    let written : c.if-k-n.table-1 ≡ copy_after ops (Made (k + 1)) table₀ =
+    let written : c.if-k-n.table ≡ copy_after ops (Made (k + 1)) table₀ =
     ⊎_elim
     (λ w.
     let row = w.3.ensures ∙ ap copy_row w.2.ensures ∙ sym (row_of_record ops k (omega arith)) in
-    w.6 ∙ next_row ops table₀ at.loop-k.table-1 _ k at.loop-k.invariant.2 row (omega arith))
+    w.6 ∙ next_row ops table₀ at.loop-k.table _ k at.loop-k.invariant.2 row (omega arith))
     (λ w.
     let row = w.2.ensures ∙ sym (row_of_none ops k (omega arith)) in
-    w.5 ∙ next_row ops table₀ at.loop-k.table-1 _ k at.loop-k.invariant.2 row (omega arith))
+    w.5 ∙ next_row ops table₀ at.loop-k.table _ k at.loop-k.invariant.2 row (omega arith))
     c.if-k-n.branch in
     (omega arith, ap length written ∙ after_length ops (Made (k + 1)) table₀, written)
 

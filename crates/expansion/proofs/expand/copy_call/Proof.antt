@@ -29,15 +29,15 @@ to_read_pass c =
     at_bytes.before
 
 -- the window is one of bytes
-bytes_known : (c : tie.After-slice_known-1) → Bytes c.before.args.bytes-1.now
-bytes_known c = below_of 8 c.before.args.bytes-1.now (λ i. omega (arith, c.slice_known-1.given i))
+bytes_known : (c : tie.After-slice_known-1) → Bytes c.before.args.bytes.now
+bytes_known c = below_of 8 c.before.args.bytes.now (λ i. omega (arith, c.slice_known-1.given i))
 
 read_pass_requires : tie.Need-read_pass-requires
 read_pass_requires c κs =
     let start = to_start c in
     let a = start.args in
     let p = start.pre in
-    pass_inside (call_of a.call) p.1 a.bytes-1.now a.stamps-1.now a.ops-1.now a.accesses-1.now p.2 p.3 p.5 p.6
+    pass_inside (call_of a.call) p.1 a.bytes.now a.stamps.now a.ops.now a.accesses.now p.2 p.3 p.5 p.6
 
 write_pass_requires : tie.Need-write_pass-requires
 write_pass_requires c κs =
@@ -45,7 +45,7 @@ write_pass_requires c κs =
     let known = to_known (to_read_pass c).before in
     let a = known.before.args in
     let p = known.before.pre in
-    write_inside (call_of a.call) a.bytes-1.now a.stamps-1.now a.ops-1.now a.accesses-1.now p.0 p.1 p.2 p.3
+    write_inside (call_of a.call) a.bytes.now a.stamps.now a.ops.now a.accesses.now p.0 p.1 p.2 p.3
     a.rows p.4 p.5 p.6 (bytes_known known) r.last.1.0 r.last.1.1.0 r.last.1.1.1.0 r.last.1.1.1.1.0
     r.ensures.0 r.ensures.1.0 r.ensures.1.1.0 r.ensures.1.1.1
 
@@ -59,7 +59,7 @@ returns c =
     let known = to_known at_read_pass.before in
     let a = known.before.args in
     let p = known.before.pre in
-    expanded_copy (call_of a.call) a.bytes-1.now a.stamps-1.now a.ops-1.now a.accesses-1.now p.0 p.1 p.2 p.3
+    expanded_copy (call_of a.call) a.bytes.now a.stamps.now a.ops.now a.accesses.now p.0 p.1 p.2 p.3
     a.rows p.4 p.5 p.6 (bytes_known known) r.last.1.0 r.last.1.1.0 r.last.1.1.1.0 r.last.1.1.1.1.0
     r.ensures.0 r.ensures.1.0 r.ensures.1.1.0 r.ensures.1.1.1
     w.new.1.1.1.0 w.new.1.1.1.1.0 w.new.1.1.1.1.1.1.0 w.ensures.0 w.ensures.1.0 w.ensures.1.1

@@ -17,7 +17,7 @@ abbrev s_of : tie.Start → Setting
 s_of c = setting c.args.limit c.args.gap
 
 abbrev t_of : tie.Start → Try
-t_of c = try_of (call_of c.args.call) (lent c.args.bytes-1.now c.args.stamps-1.now c.args.ops-1.now c.args.accesses-1.now)
+t_of c = try_of (call_of c.args.call) (lent c.args.bytes.now c.args.stamps.now c.args.ops.now c.args.accesses.now)
 
 -- the numbers that are asked fit their types
 stamp_fits : (start : tie.Start) → start.args.call.timestamp < 2 ^ 64
@@ -62,8 +62,8 @@ move_call_requires c κs =
       fair_inside _ _ _ k.0.fair small (stamp_fits start) (dst_fits start),
       sym k.0.fair.window,
       k.1,
-      k.0.room.ops-1,
-      k.0.room.accesses-1,
+      k.0.room.ops,
+      k.0.room.accesses,
     )
 
 returns : tie.Need-returns-then-rows-gt0

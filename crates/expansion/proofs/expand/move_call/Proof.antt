@@ -31,8 +31,8 @@ returns c =
     let at_slice_known3 = at_if1.before.before.before in
     let start = at_slice_known3.before.before.before in
     let a = start.args in
-    let l = lent a.bytes-1.now a.stamps-1.now a.ops-1.now a.accesses-1.now in
-    ap (λ (x : List ℕ). lent l.bytes-1 l.stamps-1 x l.accesses-1) at_write_empty.write_empty.ensures
+    let l = lent a.bytes.now a.stamps.now a.ops.now a.accesses.now in
+    ap (λ (x : List ℕ). lent l.bytes l.stamps x l.accesses) at_write_empty.write_empty.ensures
     ∙ expanded_empty (call_of a.call) l at_if1.if-call-eq0.true
 
 copy_call_requires : tie.Need-copy_call-requires
@@ -54,7 +54,7 @@ read_pass_requires c κs =
     let a = start.args in
     let p = start.pre in
     let some : 0 < a.call.count = omega (arith, at_if1.if-call-eq0.false) in
-    pass_inside (call_of a.call) some a.bytes-1.now a.stamps-1.now a.ops-1.now a.accesses-1.now (p.0 some) p.1 p.3 p.4
+    pass_inside (call_of a.call) some a.bytes.now a.stamps.now a.ops.now a.accesses.now (p.0 some) p.1 p.3 p.4
 
 returns_3 : tie.Need-returns-then-call-eq0
 returns_3 c =
@@ -67,7 +67,7 @@ returns_3 c =
     let at_if1 = at_if2.before.before in
     let start = to_start at_if1 in
     let a = start.args in
-    let l = lent a.bytes-1.now a.stamps-1.now a.ops-1.now a.accesses-1.now in
+    let l = lent a.bytes.now a.stamps.now a.ops.now a.accesses.now in
     let some : 0 < a.call.count = omega (arith, at_if1.if-call-eq0.false) in
     let r = at_read_pass.read_pass.ensures in
     cc (r.0, r.1.0, r.1.1.0, r.1.1.1) ∙ expanded_pass (call_of a.call) l some at_if2.if-call-eq0-2.false

@@ -19,7 +19,7 @@ returns c =
     let at_op_record = at_put.before.before.before in
     let start = at_op_record.before.before in
     let a = start.args in
-    let ops = a.ops-1.now in
+    let ops = a.ops.now in
     let end : leb a.call.count 1 ≡ true = le-leb a.call.count 1 (omega (arith, start.requires.0)) in
     part_back ops at_put.put.new.0 0 OP_WIDTH (search rules) start.requires.1 at_put.put.auto.0
     ∙ ap (λ (x : List ℕ). store ops 0 x) (at_put.put.ensures ∙ at_op_record.op_record-numbers.ensures ∙ rw end)

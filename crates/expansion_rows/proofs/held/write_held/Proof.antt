@@ -21,7 +21,7 @@ to_start c =
 value_bytes_requires : tie.Need-value_bytes-value-requires
 value_bytes_requires c κs =
     let start = to_start c in
-    (start.pre.1.0, start.pre.0.bytes-1)
+    (start.pre.1.0, start.pre.0.bytes)
 
 write_cells_requires : tie.Need-write_cells-requires
 write_cells_requires c κs =
@@ -41,13 +41,13 @@ returns c =
     let start = to_start at_slice_known3 in
     let a = start.args in
     let op = a.op.now in
-    let m = window_of a.bytes-1.now a.stamps-1.now in
+    let m = window_of a.bytes.now a.stamps.now in
     let w = at_write_cells.write_cells.ensures in
     let v = at_value_bytes.value_bytes-value.ensures in
     let t = sym start.pre.0.stamp in (
-      w.0 ∙ ap (λ (x : List ℕ). write_bytes a.bytes-1.now (at op 2) (at op 4) x) v,
+      w.0 ∙ ap (λ (x : List ℕ). write_bytes a.bytes.now (at op 2) (at op 4) x) v,
       (
-        w.1.0 ∙ ap (λ (x : ℕ). write_stamps a.stamps-1.now (at op 2) (at op 4) x) t,
+        w.1.0 ∙ ap (λ (x : ℕ). write_stamps a.stamps.now (at op 2) (at op 4) x) t,
         w.1.1
             ∙ ap (λ (x : List ℕ). access_record (write_access m (at op 2) (at op 4) x a.stamp)) v
             ∙ ap (λ (x : ℕ). access_record (write_access m (at op 2) (at op 4) (op_of op).piece.value x)) t,

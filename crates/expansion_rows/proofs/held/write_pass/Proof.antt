@@ -32,7 +32,7 @@ loop_holds : tie.Need-loop-k-init invariant_loop decreases_loop
 loop_holds c =
     let start = to_start c in
     let a = start.args in
-    write_start a.n a.j a.bytes-1.now a.stamps-1.now a.ops.now a.accesses-1.now start.pre.2
+    write_start a.n a.j a.bytes.now a.stamps.now a.ops.now a.accesses.now start.pre.2
 
 write_held_requires : tie.Need-write_held-requires invariant_loop decreases_loop
 write_held_requires c κs =
@@ -45,8 +45,8 @@ write_held_requires c κs =
     let p = start.pre in
     let op = run_length a.ops.now (OP_WIDTH * l.k) (OP_WIDTH * l.k + OP_WIDTH - OP_WIDTH * l.k) (search rules) in
     let to = ACCESS_WIDTH * (a.j + l.k) in
-    let part = run_length l.accesses-1 to (to + ACCESS_WIDTH - to) (search rules) in (
-      hand_inside a.n a.j a.bytes-1.now a.stamps-1.now a.ops.now a.accesses-1.now l.bytes-1 l.stamps-1 l.accesses-1 l.k l.inv
+    let part = run_length l.accesses to (to + ACCESS_WIDTH - to) (search rules) in (
+      hand_inside a.n a.j a.bytes.now a.stamps.now a.ops.now a.accesses.now l.bytes l.stamps l.accesses l.k l.inv
           at_loop_test.loop-k-test.taken a.stamp p.0 p.3,
       (omega (arith, op), omega (arith, l.inv.stamps_same, l.inv.bytes_same), omega (arith, part)),
     )
@@ -64,7 +64,7 @@ loop_again c =
     let l = at_loop.loop-k in
     let p = start.pre in
     let w = at_write_held.write_held in
-    write_turn a.n a.j a.bytes-1.now a.stamps-1.now a.ops.now a.accesses-1.now l.bytes-1 l.stamps-1 l.accesses-1 l.k l.inv
+    write_turn a.n a.j a.bytes.now a.stamps.now a.ops.now a.accesses.now l.bytes l.stamps l.accesses l.k l.inv
     at_loop_test.loop-k-test.taken a.stamp p.0 p.3
     w.new.1.1.0 w.new.1.1.1.0 w.new.1.1.1.1.0 w.ensures.0 w.ensures.1.0 w.ensures.1.1
     w.auto.1.1.0 w.auto.1.1.1.0 w.auto.1.1.1.1.0
@@ -75,7 +75,7 @@ returns c =
     let start = to_start at_slice_known3 in
     let a = start.args in
     let l = c.before.loop-k in
-    write_end a.n a.j a.bytes-1.now a.stamps-1.now a.ops.now a.accesses-1.now l.bytes-1 l.stamps-1 l.accesses-1 l.k l.invariant
+    write_end a.n a.j a.bytes.now a.stamps.now a.ops.now a.accesses.now l.bytes l.stamps l.accesses l.k l.invariant
     (search rules)
 
 pub write_pass_spec : {M : Type 1} → statement M

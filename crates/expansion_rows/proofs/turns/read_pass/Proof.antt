@@ -47,21 +47,21 @@ turned c = to_copy_row_width (to_row_turn c).before
 -- what a turn may count on, once its width is known
 ahead_at : (c : tie.After-copy_row_width-width invariant_loop decreases_loop)
     → let l = (to_loop c).loop-left in
-    Ahead (to_loop c).before.per_turn-per.result l.bytes-1 l.stamps-1 l.ops-1 l.accesses-1 (call_of l.left) l.k l.j c.copy_row_width-width.result
+    Ahead (to_loop c).before.per_turn-per.result l.bytes l.stamps l.ops l.accesses (call_of l.left) l.k l.j c.copy_row_width-width.result
 ahead_at c =
     let l = (to_loop c).loop-left in
     let at_per_turn = (to_loop c).before in
     let start = to_start at_per_turn in
     let a = start.args in
-    ahead (call_of a.call) a.bytes-1.now a.stamps-1.now a.ops-1.now a.accesses-1.now at_per_turn.per_turn-per.result
-    l.bytes-1 l.stamps-1 l.ops-1 l.accesses-1 (call_of l.left) l.first l.k l.j l.inv
+    ahead (call_of a.call) a.bytes.now a.stamps.now a.ops.now a.accesses.now at_per_turn.per_turn-per.result
+    l.bytes l.stamps l.ops l.accesses (call_of l.left) l.first l.k l.j l.inv
     start.pre c.before.loop-left-test.true c.copy_row_width-width.result c.copy_row_width-width.ensures
 
 loop_holds : tie.Need-loop-left-init invariant_loop decreases_loop
 loop_holds c =
     let start = to_start c in
     let a = start.args in
-    pass_start (call_of a.call) a.bytes-1.now a.stamps-1.now a.ops-1.now a.accesses-1.now
+    pass_start (call_of a.call) a.bytes.now a.stamps.now a.ops.now a.accesses.now
     c.per_turn-per.result start.pre c.per_turn-per.ensures
 
 row_turn_requires : tie.Need-row_turn-requires invariant_loop decreases_loop
@@ -71,9 +71,9 @@ row_turn_requires c κs =
     let h = ahead_at at_copy_row_width in
     let l = at_loop.loop-left in
     let per = at_loop.before.per_turn-per.result in
-    let op = run_length l.ops-1 (OP_WIDTH * l.k) (OP_WIDTH * l.k + OP_WIDTH - OP_WIDTH * l.k) (omega (arith, h.op_room)) in
+    let op = run_length l.ops (OP_WIDTH * l.k) (OP_WIDTH * l.k + OP_WIDTH - OP_WIDTH * l.k) (omega (arith, h.op_room)) in
     let access = ACCESS_WIDTH * l.j in
-    let part = run_length l.accesses-1 access (ACCESS_WIDTH * (l.j + per) - access) (omega (arith, h.access_room)) in
+    let part = run_length l.accesses access (ACCESS_WIDTH * (l.j + per) - access) (omega (arith, h.access_room)) in
     (h.wide, omega (arith, h.source, h.within), h.dest, h.window, omega (arith, op), omega (arith, part, h.access_part), h.later)
 
 rest_requires : tie.Need-rest-left-requires invariant_loop decreases_loop
@@ -106,8 +106,8 @@ loop_again c =
     let at_per_turn = at_loop.before in
     let start = to_start at_per_turn in
     let a = start.args in
-    pass_turn (call_of a.call) a.bytes-1.now a.stamps-1.now a.ops-1.now a.accesses-1.now at_per_turn.per_turn-per.result
-    l.bytes-1 l.stamps-1 l.ops-1 l.accesses-1 (call_of l.left) l.first l.k l.j l.inv
+    pass_turn (call_of a.call) a.bytes.now a.stamps.now a.ops.now a.accesses.now at_per_turn.per_turn-per.result
+    l.bytes l.stamps l.ops l.accesses (call_of l.left) l.first l.k l.j l.inv
     start.pre at_copy_row_width.before.loop-left-test.taken width.result width.ensures
     t.last.1.1.1.0 t.last.1.1.1.1.0 t.last.1.1.1.1.1.0 t.last.1.1.1.1.1.1.0 (call_of c.rest-left.result)
     t.ensures.0 t.ensures.1.0 t.ensures.1.1.0 t.ensures.1.1.1 c.rest-left.ensures
@@ -121,8 +121,8 @@ returns c =
     let a = start.args in
     let l = at_loop.loop-left in
     let none : l.left.count ≡ 0 = omega arith in
-    let ends = pass_end (call_of a.call) a.bytes-1.now a.stamps-1.now a.ops-1.now a.accesses-1.now at_per_turn.per_turn-per.result in
-    ends l.bytes-1 l.stamps-1 l.ops-1 l.accesses-1 (call_of l.left) l.first l.k l.j l.invariant none
+    let ends = pass_end (call_of a.call) a.bytes.now a.stamps.now a.ops.now a.accesses.now at_per_turn.per_turn-per.result in
+    ends l.bytes l.stamps l.ops l.accesses (call_of l.left) l.first l.k l.j l.invariant none
 
 pub read_pass_spec : {M : Type 1} → statement M
 read_pass_spec =

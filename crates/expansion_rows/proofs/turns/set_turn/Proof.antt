@@ -24,10 +24,10 @@ returns c =
     let a = start.args in
     let written = at_write_cells.write_cells in
     let back = at_write_back.write_back in
-    set_law (call_of a.call) a.width a.bytes-1.now a.stamps-1.now start.requires.0
+    set_law (call_of a.call) a.width a.bytes.now a.stamps.now start.requires.0
     at_read_bytes.read_bytes-value.ensures at_read_stamps.read_stamps-old_stamps.ensures
     written.ensures.0 written.ensures.1.0 written.ensures.1.1 back.ensures.0 back.ensures.1.0 back.ensures.1.1
-    (two_parts a.accesses-1.now written.new.1.1.1.1.1.1.0 back.new.1.1.1.1.1.1.1.0
+    (two_parts a.accesses.now written.new.1.1.1.1.1.1.0 back.new.1.1.1.1.1.1.1.0
     ACCESS_WIDTH (2 * ACCESS_WIDTH) (search rules) start.requires.5 written.auto.1.1.1.1.1.1.0 back.auto.1.1.1.1.1.1.1.0)
 
 pub set_turn_spec : {M : Type 1} → statement M

@@ -42,8 +42,8 @@ returns_2 c =
     let p = start.pre in
     let r = at_read_cells.read_cells.ensures in
     let here = call_of a.call in
-    let bytes = a.bytes-1.now in
-    let stamps = a.stamps-1.now in (
+    let bytes = a.bytes.now in
+    let stamps = a.stamps.now in (
       r.0,
       (
         sym (read_bytes here a.width bytes stamps at_if1.if-call-eq1.false p.0 p.1),

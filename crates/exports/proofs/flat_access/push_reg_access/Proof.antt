@@ -27,11 +27,11 @@ lent c = c.args.«record».now
 abbrev start_of : tie.After-push_reg_access-access → tie.Start
 start_of c = c.before.before.before
 
-answer_at : (c : tie.After-numbers-told) → let s = start_of c.before in c.numbers-told.result.answer-1 ≡ access_answer s.args.is_read (access s)
+answer_at : (c : tie.After-numbers-told) → let s = start_of c.before in c.numbers-told.result.answer ≡ access_answer s.args.is_read (access s)
 answer_at c =
     let found = c.before in
     let s = start_of found in
-    ap (λ (n : AccessNumbers). n.answer-1) (c.numbers-told.ensures ∙ found.push_reg_access-access.ensures.0)
+    ap (λ (n : AccessNumbers). n.answer) (c.numbers-told.ensures ∙ found.push_reg_access-access.ensures.0)
     ∙ pushed_answer s.args.is_read (access s) (lent s) found.before.if-is_read-gt1.false
 
 returns : tie.Need-returns-then-is_read-gt1

@@ -33,7 +33,7 @@ back_of c =
 
 -- the lent slices at the entry, and the try with a kind k
 abbrev slices_in : tie.Start → Lent
-slices_in c = lent c.args.bytes-1.now c.args.stamps-1.now c.args.ops-1.now c.args.accesses-1.now
+slices_in c = lent c.args.bytes.now c.args.stamps.now c.args.ops.now c.args.accesses.now
 
 abbrev with_kind_place : tie.Start → ℕ → Try
 with_kind_place c k = let a = c.args in try_of (record { kind = k; stamp = a.timestamp; src = a.src; dst = a.dst; count = a.count }) (slices_in c)
@@ -67,19 +67,19 @@ collect_copy_ops_spec =
     tie.close
     (tie.spec
     (λ c κs. search rules) (λ c κs. search rules)
-    (λ c. let e = start_of c.before.before.before in ten e.args.gap (handed e) e.args.counts-1.now
+    (λ c. let e = start_of c.before.before.before in ten e.args.gap (handed e) e.args.counts.now
     (sym c.before.before.no_kind.ensures ∙ c.before.if-no_kind.true) _ c.refuse.ensures)
     (λ c κs. search rules) (λ c κs. search rules) (λ c κs. search rules) (λ c. search rules) (λ c. search rules)
     (λ c. search rules) (λ c. search rules)
     (λ c.
     let n = c.before.before in let e = entry n in
     let done = done_as n _ (back_of n).collect_copy_ops-found.ensures in
-    refused_flat e.args.gap (handed e) e.args.counts-1.now (is_kind n) (found n) _ done _ n.numbers-answer.ensures c.if-answer-ne0.true)
+    refused_flat e.args.gap (handed e) e.args.counts.now (is_kind n) (found n) _ done _ n.numbers-answer.ensures c.if-answer-ne0.true)
     (λ c κs. search rules) (λ c. search rules) (λ c. search rules) (λ c. search rules) (λ c. search rules)
     (λ c.
     let told = c.before.before in
     let n = told.before.before in
     let e = entry n in
     let done = done_as n _ (back_of n).collect_copy_ops-found.ensures in
-    taken_flat e.args.gap (handed e) e.args.counts-1.now (is_kind n) (found n) _ done _ n.numbers-answer.ensures told.if-answer-ne0.false
+    taken_flat e.args.gap (handed e) e.args.counts.now (is_kind n) (found n) _ done _ n.numbers-answer.ensures told.if-answer-ne0.false
     _ c.before.access_count.ensures))

@@ -25,7 +25,7 @@ returns_2 c =
     let low : ℕ = c.before.before.if-top-lo.low in
     let middle : ℕ = hi % 2 ^ 32 * 0xffff_ffff in
     let e : low - (p - middle) + 1 * p ≡ low + middle = taken low middle (middle_below hi) c.before.if-low-room.false in
-    let l : low - (p - middle) < p = taken_below low middle (middle_below hi) c.before.if-low-room.false c.row_known-else-low-room-1.given.fits (middle_room hi) in (
+    let l : low - (p - middle) < p = taken_below low middle (middle_below hi) c.before.if-low-room.false c.row_known2.given.fits (middle_room hi) in (
       ⊎_elim (λ w. reduced 0 1 _ _ low _ (omega arith) e l)
           (λ w. reduced 1 1 _ _ low _ (borrowed _ _ low (top_below hi c.before.before.before.ranges.hi.fits) w.1) e l)
           c.before.before.if-top-lo.branch,

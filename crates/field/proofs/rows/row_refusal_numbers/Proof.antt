@@ -10,6 +10,6 @@ row_refusal_numbers_spec =
     (tie.spec
     (λ c. search rules) (λ c κs. search rules) (λ c. search rules) (λ c κs. search rules) (λ c. search rules)
     (λ c κs. search rules)
-    (λ c. c.refuse.ensures ∙ sym (ap row_refusal_numbers c.before.enum_told-1.given.1))
-    (λ c. c.refuse-in-NotRow.ensures ∙ sym (ap row_refusal_numbers c.before.enum_told-in-NotRow-1.given.1))
-    (λ c. c.refuse-in-NotElement.ensures ∙ sym (ap row_refusal_numbers c.before.before.why-1.given.1)))
+    (λ c. c.refuse.ensures ∙ sym (ap row_refusal_numbers c.before.enum_told.given.1))
+    (λ c. c.refuse-in-NotRow.ensures ∙ sym (ap row_refusal_numbers c.before.enum_told2.given.1))
+    (λ c. c.refuse-in-NotElement.ensures ∙ sym (ap row_refusal_numbers c.before.before.why.given.1)))

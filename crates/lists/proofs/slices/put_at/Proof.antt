@@ -25,5 +25,5 @@ put_at_spec =
     let put = c.before.before in
     let a = (entry_of put).args in
     let n : a.at + length a.part.now - a.at ≡ length a.part.now = omega arith in
-    (λ i. take a.at a.list-1.now ++ (put.put.ensures i ++ drop (n i) (drop a.at a.list-1.now)))
-    ∙ part_store a.list-1.now a.part.now a.at (length a.part.now) refl (omega arith)))
+    (λ i. take a.at a.list.now ++ (put.put.ensures i ++ drop (n i) (drop a.at a.list.now)))
+    ∙ part_store a.list.now a.part.now a.at (length a.part.now) refl (omega arith)))

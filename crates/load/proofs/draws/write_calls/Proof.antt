@@ -68,7 +68,7 @@ returns c =
     let at = c.before.loop-k in
     let a = (entry_of c.before).args in
     let all : at.k ≡ a.n = omega arith in
-    at.invariant.2.written ∙ ap (λ n. loaded a.s n a.calls-1.now) all
+    at.invariant.2.written ∙ ap (λ n. loaded a.s n a.calls.now) all
 
 pub write_calls_spec : {M : Type 1} → statement M
 write_calls_spec =

@@ -8,6 +8,6 @@ is_wanted_spec =
     tie.close
     (tie.spec
     (λ c. search rules) (λ c. search rules) (λ c. search rules)
-    (λ c. rw c.enum_told-1.given.1)
-    (λ c. rw c.enum_told-in-Aligned-1.given.1)
-    (λ c. rw c.enum_told-in-General-1.given.1))
+    (λ c. rw c.enum_told.given.1)
+    (λ c. rw c.enum_told2.given.1)
+    (λ c. rw c.enum_told3.given.1))

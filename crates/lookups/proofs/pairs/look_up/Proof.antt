@@ -20,7 +20,7 @@ write_pairs_requires c κs =
     let told = c.before in
     let answered = told.before.before in
     let a = (start_of answered).args in
-    let f = written_facts a.limit a.accesses.now (length a.lookups-1.now) _ (sym answered.lookup_answer-answer.ensures ∙ told.enum_told-1.given.1) in
+    let f = written_facts a.limit a.accesses.now (length a.lookups.now) _ (sym answered.lookup_answer-answer.ensures ∙ told.enum_told.given.1) in
     (omega (arith, f.allowed), all_routable a.accesses.now f.fine, f.fits)
 
 returns : tie.Need-returns-in-Written
@@ -30,13 +30,13 @@ returns c =
     let told = wrote.before.before in
     let answered = told.before.before in
     let a = (start_of answered).args in
-    let same = ap (λ (x : LookupAnswer). lookups_after a.accesses.now x a.lookups-1.now) (sym told.enum_told-1.given.1) in
+    let same = ap (λ (x : LookupAnswer). lookups_after a.accesses.now x a.lookups.now) (sym told.enum_told.given.1) in
     (answered.lookup_answer-answer.ensures, wrote.write_pairs.ensures ∙ same)
 
 returns_2 : tie.Need-returns-in_default
 returns_2 c =
     let a = (start_of c.before).args in
-    (c.before.lookup_answer-answer.ensures, refused_keeps a.accesses.now a.lookups-1.now _ c.match.keys2)
+    (c.before.lookup_answer-answer.ensures, refused_keeps a.accesses.now a.lookups.now _ c.match.keys2)
 
 pub look_up_spec : {M : Type 1} → statement M
 look_up_spec =

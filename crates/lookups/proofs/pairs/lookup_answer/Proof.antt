@@ -39,13 +39,13 @@ returns c =
 -- the counts that it came to, and that none is above the record count
 abbrev counts_of : tie.In-Routed-2 → Counts
 counts_of c =
-    let counts = c.judged-1.given.0 in
+    let counts = c.judged.given.0 in
     three counts.0 counts.1.0 counts.1.1.0
 
 few_at : (c : tie.In-Routed-2) → (counts_of c).register ≤ record_count ACCESS_WIDTH (start_of c.before.before).args.accesses.now
 few_at c =
     let judged = c.before.before in
-    judged_le (start_of judged).args.accesses.now (counts_of c) (sym judged.judge-judged.ensures ∙ c.judged-1.given.1) Register
+    judged_le (start_of judged).args.accesses.now (counts_of c) (sym judged.judge-judged.ensures ∙ c.judged.given.1) Register
 
 returns_2 : tie.Need-returns-then-pairs-room
 returns_2 c =
@@ -53,7 +53,7 @@ returns_2 c =
     let judged = told.before.before in
     let pairs = (counts_of told).register in
     ap (λ b. cond b (Written pairs) BufferShort) (sym (le-leb (PAIR_WIDTH * pairs) (start_of judged).args.room (omega arith)))
-    ∙ answer_at judged (routed (counts_of told)) told.judged-1.given.1
+    ∙ answer_at judged (routed (counts_of told)) told.judged.given.1
 
 returns_3 : tie.Need-returns-else-pairs-room
 returns_3 c =
@@ -61,7 +61,7 @@ returns_3 c =
     let judged = told.before.before in
     let pairs = (counts_of told).register in
     ap (λ b. cond b (Written pairs) BufferShort) (sym (lt-leb (PAIR_WIDTH * pairs) (start_of judged).args.room (omega arith)))
-    ∙ answer_at judged (routed (counts_of told)) told.judged-1.given.1
+    ∙ answer_at judged (routed (counts_of told)) told.judged.given.1
 
 pub lookup_answer_spec : {M : Type 1} → statement M
 lookup_answer_spec =
@@ -74,7 +74,7 @@ lookup_answer_spec =
     returns_2
     (λ c. search rules) (λ c. search rules) (λ c. search rules) (λ c. search rules)
     returns_3
-    (λ c. answer_at c.before.before _ c.enum_told-1.given.1)
-    (λ c. answer_at c.before.before.before _ c.before.judged-in-BadRecord-1.given.1)
-    (λ c. answer_at c.before.before.before _ c.before.judged-in-BadAddress-1.given.1)
-    (λ c. answer_at c.before.before _ c.enum_told-in-BufferShort-1.given.1))
+    (λ c. answer_at c.before.before _ c.enum_told.given.1)
+    (λ c. answer_at c.before.before.before _ c.before.judged2.given.1)
+    (λ c. answer_at c.before.before.before _ c.before.judged3.given.1)
+    (λ c. answer_at c.before.before _ c.enum_told2.given.1))

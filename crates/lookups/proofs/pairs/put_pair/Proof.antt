@@ -51,8 +51,8 @@ returns c =
       count = sym (ap (λ (b : Bool). one_more b a.end) yes);
       pairs =
           put.put_at.ensures
-          ∙ ap (store a.lookups-1.now (PAIR_WIDTH * a.end)) pair
-          ∙ sym (ap (λ (b : Bool). placed b PAIR_WIDTH a.end (pair_of (op tested)) a.lookups-1.now) yes);
+          ∙ ap (store a.lookups.now (PAIR_WIDTH * a.end)) pair
+          ∙ sym (ap (λ (b : Bool). placed b PAIR_WIDTH a.end (pair_of (op tested)) a.lookups.now) yes);
     }
 
 returns_2 : tie.Need-returns-then-is_wanted
@@ -62,7 +62,7 @@ returns_2 c =
     let no = wanted_at tested ∙ c.if-is_wanted.false in
     record {
       count = sym (ap (λ (b : Bool). one_more b a.end) no);
-      pairs = sym (ap (λ (b : Bool). placed b PAIR_WIDTH a.end (pair_of (op tested)) a.lookups-1.now) no);
+      pairs = sym (ap (λ (b : Bool). placed b PAIR_WIDTH a.end (pair_of (op tested)) a.lookups.now) no);
     }
 
 pub put_pair_spec : {M : Type 1} → statement M

@@ -74,7 +74,7 @@ loop_again c =
       at.loop-k.inv.1,
       loop.filled_next PAIR_WIDTH (goes_to Register (accesses at)) (pair_at_place (accesses at)) _ _ at.loop-k.end k (λ i z. refl)
           at.loop-k.inv.2 _ _ (done.count ∙ ap (λ r. one_more (wanted r) at.loop-k.end) e)
-          (done.pairs ∙ ap (λ r. placed (wanted r) PAIR_WIDTH at.loop-k.end (pair_of r) at.loop-k.lookups-1) e),
+          (done.pairs ∙ ap (λ r. placed (wanted r) PAIR_WIDTH at.loop-k.end (pair_of r) at.loop-k.lookups) e),
     )
 
 returns : tie.Need-returns invariant_loop decreases_loop
@@ -82,7 +82,7 @@ unfolding lookups_of
 returns c =
     let at = c.before in
     let e : at.loop-k.k ≡ record_count ACCESS_WIDTH (accesses at) = omega arith in
-    at.loop-k.invariant.2.filled ∙ ap (λ m. store (start_of at).args.lookups-1.now 0 (lookups_of (accesses at) m)) e
+    at.loop-k.invariant.2.filled ∙ ap (λ m. store (start_of at).args.lookups.now 0 (lookups_of (accesses at) m)) e
 
 pub write_pairs_spec : {M : Type 1} → statement M
 write_pairs_spec =

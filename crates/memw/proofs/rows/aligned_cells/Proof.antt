@@ -17,8 +17,8 @@ use Rattle.memw.proofs.rows.aligned_cells.Tie as tie
 row_of_lem : (a : Access) {address timestamp write stamp : List ℕ} {mu : ℕ}
     → address ≡ address_parts a.address → timestamp ≡ words a.timestamp → write ≡ write_flags a.width
     → stamp ≡ words (at a.old_timestamps 0) → mu ≡ bit (eqb a.is_read 0)
-    → (a.is_register ∷ []) ++ numbers_at address 0 3 ++ eight_at a.value-1 0 ++ numbers_at timestamp 0 2 ++ numbers_at write 0 3
-    ++ eight_at a.old-1 0 ++ numbers_at stamp 0 2 ++ (a.is_read ∷ mu ∷ [])
+    → (a.is_register ∷ []) ++ numbers_at address 0 3 ++ eight_at a.value 0 ++ numbers_at timestamp 0 2 ++ numbers_at write 0 3
+    ++ eight_at a.old 0 ++ numbers_at stamp 0 2 ++ (a.is_read ∷ mu ∷ [])
     ≡ aligned_row a
 unfolding aligned_row
 row_of_lem a p q r s t = rw (p, q, r, s, t)

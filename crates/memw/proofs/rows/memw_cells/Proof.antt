@@ -17,8 +17,8 @@ use Rattle.memw.proofs.rows.memw_cells.Tie as tie
 row_of_lem : (a : Access) {address timestamp write carry stamps : List ℕ} {mu : ℕ}
     → address ≡ words a.address → timestamp ≡ words a.timestamp → write ≡ write_flags a.width → carry ≡ carries (a.address % 2 ^ 32)
     → stamps ≡ stamp_words a.old_timestamps → mu ≡ bit (eqb a.is_read 0)
-    → (a.is_register ∷ []) ++ numbers_at address 0 2 ++ eight_at a.value-1 0 ++ numbers_at timestamp 0 2 ++ numbers_at write 0 3
-    ++ eight_at a.old-1 0 ++ numbers_at carry 0 7 ++ numbers_at stamps 0 16 ++ (a.is_read ∷ mu ∷ [])
+    → (a.is_register ∷ []) ++ numbers_at address 0 2 ++ eight_at a.value 0 ++ numbers_at timestamp 0 2 ++ numbers_at write 0 3
+    ++ eight_at a.old 0 ++ numbers_at carry 0 7 ++ numbers_at stamps 0 16 ++ (a.is_read ∷ mu ∷ [])
     ≡ memw_row a
 unfolding memw_row
 row_of_lem a p q r s t u = rw (p, q, r, s, t, u)

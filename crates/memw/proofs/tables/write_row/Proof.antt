@@ -19,19 +19,19 @@ operation_requires : tie.Need-operation-requires
 operation_requires c κs =
     let at_slice_known = c.before.before.before in
     let start = at_slice_known.before in
-    start.requires.1 ∙ ap record_width c.enum_told-1.given.1
+    start.requires.1 ∙ ap record_width c.enum_told.given.1
 
 operation_requires_2 : tie.Need-operation-requires-in-Aligned
 operation_requires_2 c κs =
     let at_slice_known = c.before.before.before in
     let start = at_slice_known.before in
-    start.requires.1 ∙ ap record_width c.enum_told-in-Aligned-1.given.1
+    start.requires.1 ∙ ap record_width c.enum_told2.given.1
 
 reg_row_requires : tie.Need-reg_row-requires
 reg_row_requires c κs =
     let at_slice_known = c.before.before.before in
     let start = at_slice_known.before in
-    start.requires.1 ∙ ap record_width c.enum_told-in-Register-1.given.1
+    start.requires.1 ∙ ap record_width c.enum_told3.given.1
 
 -- the row is as wide as the cells; the general table lends on a part that is the whole row, and what comes back in its place is the row
 part_wide : (row : List ℕ) (n : ℕ) → length row ≡ n → length (take n row) ≡ n
@@ -45,7 +45,7 @@ part_put_end c =
     let told = c.before.before in
     let known = told.before.before.before in
     let start = known.before in
-    let wide = start.requires.0 ∙ ap row_width told.enum_told-1.given.1 in
+    let wide = start.requires.0 ∙ ap row_width told.enum_told.given.1 in
     omega arith
 
 put_requires : tie.Need-put-requires
@@ -54,15 +54,15 @@ put_requires c κs =
     let told = at_memw_cells.before.before in
     let known = told.before.before.before in
     let start = known.before in
-    let wide = start.requires.0 ∙ ap row_width told.enum_told-1.given.1 in
-    part_wide start.args.row-1.now (row_width General) wide ∙ sym (ap length at_memw_cells.memw_cells-cells.ensures ∙ memw_wide _)
+    let wide = start.requires.0 ∙ ap row_width told.enum_told.given.1 in
+    part_wide start.args.row.now (row_width General) wide ∙ sym (ap length at_memw_cells.memw_cells-cells.ensures ∙ memw_wide _)
 
 put_requires_2 : tie.Need-put-requires-in-Aligned
 put_requires_2 c κs =
     let at_aligned_cells = c.before.before in
     let told = at_aligned_cells.before.before in
     let known = told.before.before.before in
-    known.before.requires.0 ∙ ap row_width told.enum_told-in-Aligned-1.given.1
+    known.before.requires.0 ∙ ap row_width told.enum_told2.given.1
     ∙ sym (ap length at_aligned_cells.aligned_cells-cells.ensures ∙ aligned_wide _)
 
 put_requires_3 : tie.Need-put-requires-in-Register
@@ -70,7 +70,7 @@ put_requires_3 c κs =
     let at_register_cells = c.before.before in
     let told = at_register_cells.before.before in
     let known = told.before.before.before in
-    known.before.requires.0 ∙ ap row_width told.enum_told-in-Register-1.given.1
+    known.before.requires.0 ∙ ap row_width told.enum_told3.given.1
     ∙ sym (ap length at_register_cells.register_cells-cells.ensures ∙ register_wide _)
 
 returns : tie.Need-returns-in-General
@@ -80,23 +80,23 @@ returns c =
     let told = made.before.before in
     let known = told.before.before.before in
     let start = known.before in
-    let wide = start.requires.0 ∙ ap row_width told.enum_told-1.given.1 in
-    rw told.enum_told-1.given.1
-    (whole start.args.row-1.now _ (row_width General) wide
+    let wide = start.requires.0 ∙ ap row_width told.enum_told.given.1 in
+    rw told.enum_told.given.1
+    (whole start.args.row.now _ (row_width General) wide
     ∙ at_put.put.ensures ∙ made.memw_cells-cells.ensures ∙ ap memw_row made.before.operation.ensures)
 
 returns_2 : tie.Need-returns-in-Aligned
 returns_2 c =
     let at_put2 = c.before.before in
     let made = at_put2.before.before.before in
-    rw made.before.before.enum_told-in-Aligned-1.given.1
+    rw made.before.before.enum_told2.given.1
     (at_put2.put-in-Aligned.ensures ∙ made.aligned_cells-cells.ensures ∙ ap aligned_row made.before.operation-in-Aligned.ensures)
 
 returns_3 : tie.Need-returns-in-Register
 returns_3 c =
     let at_put3 = c.before.before in
     let made = at_put3.before.before.before in
-    rw made.before.before.enum_told-in-Register-1.given.1
+    rw made.before.before.enum_told3.given.1
     (at_put3.put-in-Register.ensures ∙ made.register_cells-cells.ensures ∙ ap register_row made.before.reg_row.ensures)
 
 pub write_row_spec : {M : Type 1} → statement M

@@ -22,8 +22,8 @@ write_rows_requires c κs =
     let told = c.before.before in
     let args = (start_of told.before.before).args in
     let records = args.records.now in
-    let room = length args.table-1.now in
-    let made = sym told.before.before.memw_answer-answer.ensures ∙ told.answer-1.given.1 in
+    let room = length args.table.now in
+    let made = sym told.before.before.memw_answer-answer.ensures ∙ told.answer.given.1 in
     (made_whole args.t args.limit records room _ made, (made_facts args.t args.limit records room _ made).fits)
 
 returns : tie.Need-returns-in-Made
@@ -31,8 +31,8 @@ returns c =
     let at_write_rows = c.before.before in
     let told = at_write_rows.before.before.before in
     let args = (start_of told.before.before).args in
-    let made = sym told.answer-1.given.1 ∙ told.before.before.memw_answer-answer.ensures in
-    let after : TableAnswer → List ℕ = λ a. memw_after args.t args.records.now a args.table-1.now in
+    let made = sym told.answer.given.1 ∙ told.before.before.memw_answer-answer.ensures in
+    let after : TableAnswer → List ℕ = λ a. memw_after args.t args.records.now a args.table.now in
     (made, at_write_rows.write_rows.ensures ∙ ap after made)
 
 returns_2 : tie.Need-returns-in_default
@@ -43,8 +43,8 @@ returns_2 c =
     let args = start.args in
     let t = args.t in
     let answered = c.before.memw_answer-answer.ensures in
-    let after : TableAnswer → List ℕ = λ a. memw_after t args.records.now a args.table-1.now in
-    let kept = refused_keeps (record_width t) (record_row t) (table_padding t) args.records.now args.table-1.now _ c.match.keys2 in
+    let after : TableAnswer → List ℕ = λ a. memw_after t args.records.now a args.table.now in
+    let kept = refused_keeps (record_width t) (record_row t) (table_padding t) args.records.now args.table.now _ c.match.keys2 in
     (answered, kept ∙ ap after answered)
 
 pub make_spec : {M : Type 1} → statement M

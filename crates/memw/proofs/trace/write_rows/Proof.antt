@@ -31,7 +31,7 @@ abbrev to_width : tie.At-loop-k invariant_loop decreases_loop → tie.After-row_
 to_width c = c.before.before
 
 -- row `k` ends within the table
-ends : (c : tie.In-loop-k invariant_loop decreases_loop) → let v = (to_width c.before).row_width-v.result in v * c.before.loop-k.k + v ≤ length c.before.loop-k.table-1
+ends : (c : tie.In-loop-k invariant_loop decreases_loop) → let v = (to_width c.before).row_width-v.result in v * c.before.loop-k.k + v ≤ length c.before.loop-k.table
 ends c =
     let entry = to_start (to_width c.before) in
     rw (to_width c.before).row_width-v.ensures
@@ -47,7 +47,7 @@ loop_holds c =
     let at_row_width = c.before in
     let start = to_start at_row_width in
     let args = start.args in
-    (omega arith, refl, sym (no_rows args.t args.records.now args.table-1.now))
+    (omega arith, refl, sym (no_rows args.t args.records.now args.table.now))
 
 write_row_at_requires : tie.Need-write_row_at-requires invariant_loop decreases_loop
 write_row_at_requires c κs =
@@ -66,11 +66,11 @@ loop_again c =
     let args = entry.args in
     let k = at.loop-k.k in
     let v = at.before.before.row_width-v.ensures in
-    let fits : row_width args.t * k + row_width args.t ≤ length args.table-1.now =
+    let fits : row_width args.t * k + row_width args.t ≤ length args.table.now =
     omega (arith, row_within (row_width args.t) k args.rows at_loop_test.loop-k-test.true, entry.pre.1) in
     let written =
-    next_row args.t args.records.now args.table-1.now at.loop-k.table-1 _ k at.loop-k.invariant.2 at_write_row_at.write_row_at.ensures fits in
-    (omega arith, rw v (ap length written ∙ after_length args.t args.records.now (Made (k + 1)) args.table-1.now), rw v written)
+    next_row args.t args.records.now args.table.now at.loop-k.table _ k at.loop-k.invariant.2 at_write_row_at.write_row_at.ensures fits in
+    (omega arith, rw v (ap length written ∙ after_length args.t args.records.now (Made (k + 1)) args.table.now), rw v written)
 
 returns : tie.Need-returns invariant_loop decreases_loop
 returns c =

@@ -30,13 +30,13 @@ found c =
 
 fine_row : (c : tie.In-Fine) → let a = (to_start c.before.before).args in
     Judged (ltb a.number (residue_count a.t)) (row_width a.t) a.row.now
-fine_row c = is_fine _ _ _ (sym (found c.before.before) ∙ c.enum_told-1.given.1)
+fine_row c = is_fine _ _ _ (sym (found c.before.before) ∙ c.enum_told.given.1)
 
 returns : tie.Need-returns-in-Fine
 unfolding memw_residue_answer
 returns c =
     let told = c.before in
-    ap Residue c.equation.ensures ∙ answer_of _ _ (found told.before.before) told.enum_told-1.given.1
+    ap Residue c.equation.ensures ∙ answer_of _ _ (found told.before.before) told.enum_told.given.1
 
 pub residue_in_spec : {M : Type 1} → statement M
 unfolding memw_residue_answer
@@ -47,4 +47,4 @@ residue_in_spec =
     (λ c κs. ((fine_row c).row_is, ltb-true _ _ (fine_row c).is_inside))
     (λ c. search rules)
     returns
-    (λ c. let told = c.before in answer_of _ _ (found told.before.before) told.why-1.given.1))
+    (λ c. let told = c.before in answer_of _ _ (found told.before.before) told.why.given.1))

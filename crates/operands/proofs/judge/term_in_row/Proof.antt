@@ -11,4 +11,4 @@ term_in_row_spec =
     tie.close
     (tie.spec
     (λ c. search rules) (λ c. search rules) (λ c. search rules)
-    (λ c. sym (ap term_in_row c.before.t-1.given.1)))
+    (λ c. sym (ap term_in_row c.before.t.given.1)))

@@ -26,7 +26,7 @@ column c =
 returns : tie.Need-returns-in-Constant
 unfolding term_value
 returns c =
-    let told = c.before.before.t-1.given in
+    let told = c.before.before.t.given in
     let e : c.from_signed.result ≡ signed_p told.0.0 =
     c.from_signed.ensures.0 ∙ ap signed_p (to_z-of_z {w = w64} {z = told.0.0} (record { sfits = search rules }))
     in

@@ -29,16 +29,16 @@ read c = sym c.before.is_read.ensures ∙ not-false _ c.if-not-is_read.false
 
 -- there is room for what is put
 room : (c : tie.Else-not-is_read) (which : Bool) → let a = (entry_of c.before).args in
-    a.calls ≡ which → width_of which * a.j + width_of which ≤ length a.out-1.now
+    a.calls ≡ which → width_of which * a.j + width_of which ≤ length a.out.now
 room c which e =
     let entry = entry_of c.before in
     let a = entry.args in
-    room_for a.calls a.row.now a.out-1.now a.j (read c) which e (entry.pre.1 (read c))
+    room_for a.calls a.row.now a.out.now a.j (read c) which e (entry.pre.1 (read c))
 
-call_room : (c : tie.Then-calls) → let a = (entry_of c.before.before).args in CALL_WIDTH * a.j + CALL_WIDTH ≤ length a.out-1.now
+call_room : (c : tie.Then-calls) → let a = (entry_of c.before.before).args in CALL_WIDTH * a.j + CALL_WIDTH ≤ length a.out.now
 call_room c = room c.before true c.if-calls.true
 
-op_room : (c : tie.Else-calls) → let a = (entry_of c.before.before).args in OP_WIDTH * a.j + OP_WIDTH ≤ length a.out-1.now
+op_room : (c : tie.Else-calls) → let a = (entry_of c.before.before).args in OP_WIDTH * a.j + OP_WIDTH ≤ length a.out.now
 op_room c = room c.before false c.if-calls.false
 
 pub put_row_spec : {M : Type 1} → statement M
@@ -48,7 +48,7 @@ put_row_spec =
     (λ c κs. search rules)
     (λ c.
     let a = (entry_of c.before).args in
-    passed_over a.calls a.row.now a.out-1.now a.j (sym c.before.is_read.ensures ∙ not-true _ c.if-not-is_read.true))
+    passed_over a.calls a.row.now a.out.now a.j (sym c.before.is_read.ensures ∙ not-true _ c.if-not-is_read.true))
     (λ c κs. search rules)
     (λ c. omega (arith, call_room c.before.before))
     (λ c. search rules)
@@ -60,7 +60,7 @@ put_row_spec =
     let made = put.before in
     let call = call_of_place made in
     let a = (entry_of call.before.before).args in
-    written_row a.calls a.row.now a.out-1.now a.j (read call.before) true call.if-calls.taken _ _
+    written_row a.calls a.row.now a.out.now a.j (read call.before) true call.if-calls.taken _ _
     made.before.before.call_record-record.ensures put.put_at.ensures)
     (λ c κs. search rules)
     (λ c. omega (arith, op_room c.before.before))
@@ -73,5 +73,5 @@ put_row_spec =
     let made = put.before in
     let op = op_of_place made in
     let a = (entry_of op.before.before).args in
-    written_row a.calls a.row.now a.out-1.now a.j (read op.before) false op.if-calls.left _ _
+    written_row a.calls a.row.now a.out.now a.j (read op.before) false op.if-calls.left _ _
     made.before.before.op_record-record.ensures put.put_at-2.ensures))

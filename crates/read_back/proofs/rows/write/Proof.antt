@@ -47,7 +47,7 @@ row_of_lem c = c.before.before
 abbrev put_of : tie.After-put_row-arg-in-loop-k-1 invariant_loop decreases_loop → tie.After-put_row-o invariant_loop decreases_loop
 put_of c = c.before.before.before
 
-holds : (c : Top) → let a = (entry_of c).args in Holds (rows_of c) (length a.ops-1.now) (length a.calls-1.now)
+holds : (c : Top) → let a = (entry_of c).args in Holds (rows_of c) (length a.ops.now) (length a.calls.now)
 holds c = holds_of _ _ _ (entry_of c).requires.1
 
 module _ (c : Row) where

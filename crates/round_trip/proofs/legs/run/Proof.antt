@@ -36,7 +36,7 @@ abbrev trip_of_place : tie.Start → Trip
 trip_of_place start =
     let a = start.args in
     trip_of a.gap a.calls.now
-    (trip_lent a.bytes-1.now a.stamps-1.now a.ops-1.now a.accesses-1.now a.table-1.now a.ops_back_lem.now a.calls_back_lem.now)
+    (trip_lent a.bytes.now a.stamps.now a.ops.now a.accesses.now a.table.now a.ops_back_lem.now a.calls_back_lem.now)
 
 mul_generate_copy_trace : tie.Need-overflow_mul-n
 mul_generate_copy_trace c =

@@ -86,10 +86,10 @@ returns c =
     let e = to_register here in
     put_of
     (c.one_more.ensures ∙ ap (λ t. with_one t a.ends) (table_at found))
-    (placed_here Register Register (op found) a.ends a.register-1.now e refl _
-    (put.put_at.ensures ∙ ap (λ (r : List ℕ). store a.register-1.now (REGISTER_WIDTH * a.ends.register-1) r) made.register_record-record.ensures))
-    (placed_not Aligned Register (op found) a.ends a.aligned-1.now e refl)
-    (placed_not General Register (op found) a.ends a.general-1.now e refl)
+    (placed_here Register Register (op found) a.ends a.register.now e refl _
+    (put.put_at.ensures ∙ ap (λ (r : List ℕ). store a.register.now (REGISTER_WIDTH * a.ends.register) r) made.register_record-record.ensures))
+    (placed_not Aligned Register (op found) a.ends a.aligned.now e refl)
+    (placed_not General Register (op found) a.ends a.general.now e refl)
 
 returns_2 : tie.Need-returns-then-to_aligned
 returns_2 c =
@@ -101,10 +101,10 @@ returns_2 c =
     let e = to_aligned told in
     put_of
     (c.one_more-then-to_aligned.ensures ∙ ap (λ t. with_one t a.ends) (table_at found))
-    (placed_not Register Aligned (op found) a.ends a.register-1.now e refl)
-    (placed_here Aligned Aligned (op found) a.ends a.aligned-1.now e refl _
-    (put.put_at-then-to_aligned.ensures ∙ ap (store a.aligned-1.now (ACCESS_WIDTH * a.ends.aligned-1)) (part found)))
-    (placed_not General Aligned (op found) a.ends a.general-1.now e refl)
+    (placed_not Register Aligned (op found) a.ends a.register.now e refl)
+    (placed_here Aligned Aligned (op found) a.ends a.aligned.now e refl _
+    (put.put_at-then-to_aligned.ensures ∙ ap (store a.aligned.now (ACCESS_WIDTH * a.ends.aligned)) (part found)))
+    (placed_not General Aligned (op found) a.ends a.general.now e refl)
 
 returns_3 : tie.Need-returns-then-to_register
 returns_3 c =
@@ -116,10 +116,10 @@ returns_3 c =
     let e = to_general told in
     put_of
     (c.one_more-2.ensures ∙ ap (λ t. with_one t a.ends) (table_at found))
-    (placed_not Register General (op found) a.ends a.register-1.now e refl)
-    (placed_not Aligned General (op found) a.ends a.aligned-1.now e refl)
-    (placed_here General General (op found) a.ends a.general-1.now e refl _
-    (put.put_at-2.ensures ∙ ap (store a.general-1.now (ACCESS_WIDTH * a.ends.general-1)) (part found)))
+    (placed_not Register General (op found) a.ends a.register.now e refl)
+    (placed_not Aligned General (op found) a.ends a.aligned.now e refl)
+    (placed_here General General (op found) a.ends a.general.now e refl _
+    (put.put_at-2.ensures ∙ ap (store a.general.now (ACCESS_WIDTH * a.ends.general)) (part found)))
 
 pub put_access_spec : {M : Type 1} → statement M
 put_access_spec =

@@ -18,7 +18,7 @@ start_of c =
     slices.before.before
 
 abbrev lent : tie.Start → Lists
-lent c = lists c.args.register-1.now c.args.aligned-1.now c.args.general-1.now
+lent c = lists c.args.register.now c.args.aligned.now c.args.general.now
 
 -- what an answer that is no refusal says
 facts_at : (c : tie.After-route_answer-answer) (counts : Counts) → c.route_answer-answer.result ≡ routed counts → let s = start_of c in
@@ -31,7 +31,7 @@ write_routes_requires : tie.Need-write_routes-requires
 write_routes_requires c κs =
     let told = c.before.before.before in
     let answered = told.before.before in
-    let f = facts_at answered (three _ _ _) told.enum_told-1.given.1 in
+    let f = facts_at answered (three _ _ _) told.enum_told.given.1 in
     (omega (arith, f.allowed), all_routable (start_of answered).args.accesses.now f.fine, f.holds)
 
 returns : tie.Need-returns-in-Routed
@@ -46,24 +46,24 @@ returns c =
     let wrote = at_write_routes.write_routes.ensures in (
       answered.route_answer-answer.ensures,
       (λ i. lists (wrote Register i) (wrote Aligned i) (wrote General i))
-          ∙ ap (λ (a : RouteAnswer). lists_after s.args.accesses.now a (lent s)) (sym told.enum_told-1.given.1),
+          ∙ ap (λ (a : RouteAnswer). lists_after s.args.accesses.now a (lent s)) (sym told.enum_told.given.1),
     )
 
 returns_2 : tie.Need-returns-in-TooManyRecords
 unfolding lists_after
-returns_2 c = (c.before.before.route_answer-answer.ensures, rw c.enum_told-in-TooManyRecords-1.given.1)
+returns_2 c = (c.before.before.route_answer-answer.ensures, rw c.enum_told2.given.1)
 
 returns_3 : tie.Need-returns-in-BadRecord
 unfolding lists_after
-returns_3 c = (c.before.before.route_answer-answer.ensures, rw c.enum_told-in-BadRecord-1.given.1)
+returns_3 c = (c.before.before.route_answer-answer.ensures, rw c.enum_told3.given.1)
 
 returns_4 : tie.Need-returns-in-BadAddress
 unfolding lists_after
-returns_4 c = (c.before.before.route_answer-answer.ensures, rw c.enum_told-in-BadAddress-1.given.1)
+returns_4 c = (c.before.before.route_answer-answer.ensures, rw c.enum_told4.given.1)
 
 returns_5 : tie.Need-returns-in-BufferShort
 unfolding lists_after
-returns_5 c = (c.before.before.route_answer-answer.ensures, rw c.enum_told-in-BufferShort-1.given.1)
+returns_5 c = (c.before.before.route_answer-answer.ensures, rw c.enum_told5.given.1)
 
 pub route_spec : {M : Type 1} → statement M
 route_spec =

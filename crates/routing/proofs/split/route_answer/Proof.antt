@@ -45,16 +45,16 @@ returns c =
 returns_2 : tie.Need-returns-then-r-register
 returns_2 c =
     let told = c.before.before in
-    let counts = told.answer-1.given.0 in
+    let counts = told.answer.given.0 in
     let told_counts = three counts.0 counts.1.0 counts.1.1.0 in
-    ap (λ b. cond b (routed told_counts) BufferShort) (sym c.if-r-register.true) ∙ answer_at told.before.before (routed told_counts) told.answer-1.given.1
+    ap (λ b. cond b (routed told_counts) BufferShort) (sym c.if-r-register.true) ∙ answer_at told.before.before (routed told_counts) told.answer.given.1
 
 returns_3 : tie.Need-returns-else-r-register
 returns_3 c =
     let told = c.before.before in
-    let counts = told.answer-1.given.0 in
+    let counts = told.answer.given.0 in
     let told_counts = three counts.0 counts.1.0 counts.1.1.0 in
-    ap (λ b. cond b (routed told_counts) BufferShort) (sym c.if-r-register.false) ∙ answer_at told.before.before (routed told_counts) told.answer-1.given.1
+    ap (λ b. cond b (routed told_counts) BufferShort) (sym c.if-r-register.false) ∙ answer_at told.before.before (routed told_counts) told.answer.given.1
 
 pub route_answer_spec : {M : Type 1} → statement M
 route_answer_spec =
@@ -63,13 +63,13 @@ route_answer_spec =
     (λ c κs. search rules)
     returns
     (λ c κs. search rules) (λ c. search rules)
-    (λ c. let told = c.before in omega (arith, few_at told.before.before (three _ _ _) told.answer-1.given.1 Register))
-    (λ c. let told = c.before in omega (arith, few_at told.before.before (three _ _ _) told.answer-1.given.1 Aligned))
-    (λ c. let told = c.before in omega (arith, few_at told.before.before (three _ _ _) told.answer-1.given.1 General))
+    (λ c. let told = c.before in omega (arith, few_at told.before.before (three _ _ _) told.answer.given.1 Register))
+    (λ c. let told = c.before in omega (arith, few_at told.before.before (three _ _ _) told.answer.given.1 Aligned))
+    (λ c. let told = c.before in omega (arith, few_at told.before.before (three _ _ _) told.answer.given.1 General))
     returns_2
     (λ c. search rules) (λ c. search rules) (λ c. search rules) (λ c. search rules)
     returns_3
-    (λ c. let told = c.enum_told-1.given.1 in told ∙ answer_at c.before.before _ told)
-    (λ c. let told = c.enum_told-in-BadRecord-1.given.1 in told ∙ answer_at c.before.before _ told)
-    (λ c. let told = c.enum_told-in-BadAddress-1.given.1 in told ∙ answer_at c.before.before _ told)
-    (λ c. let told = c.enum_told-in-BufferShort-1.given.1 in told ∙ answer_at c.before.before _ told))
+    (λ c. let told = c.enum_told.given.1 in told ∙ answer_at c.before.before _ told)
+    (λ c. let told = c.enum_told2.given.1 in told ∙ answer_at c.before.before _ told)
+    (λ c. let told = c.enum_told3.given.1 in told ∙ answer_at c.before.before _ told)
+    (λ c. let told = c.enum_told4.given.1 in told ∙ answer_at c.before.before _ told))

@@ -39,10 +39,10 @@ module _ (c : tie.At-loop-k invariant_loop decreases_loop) where
   accesses = (start_of c).args.accesses.now
 
   abbrev lent : Lists
-  lent = let a = (start_of c).args in lists a.register-1.now a.aligned-1.now a.general-1.now
+  lent = let a = (start_of c).args in lists a.register.now a.aligned.now a.general.now
 
   abbrev so_far : Lists
-  so_far = lists c.loop-k.register-1 c.loop-k.aligned-1 c.loop-k.general-1
+  so_far = lists c.loop-k.register c.loop-k.aligned c.loop-k.general
 
   good : (j : ℕ) → j < record_count ACCESS_WIDTH accesses → good_access (record_at ACCESS_WIDTH accesses j) ≡ true
   good = (start_of c).requires.1

@@ -32,9 +32,9 @@ loop_again c =
     let numbers = turn.before.before.before.args.numbers.now in
     let l = turn.loop-i in
     let number = at_put_number.put_number-end in
-    let next = field_turn l.out-1 number.new.0 numbers l.end l.i number.result (omega arith) number.ensures.0.0 number.ensures.1 in (
+    let next = field_turn l.out number.new.0 numbers l.end l.i number.result (omega arith) number.ensures.0.0 number.ensures.1 in (
       omega arith,
-      field_length l.out-1 number.new.0 _ l.end number.ensures.1 ∙ l.invariant.1,
+      field_length l.out number.new.0 _ l.end number.ensures.1 ∙ l.invariant.1,
       omega arith,
       next.1 ∙ l.invariant.3,
       next.0 ∙ l.invariant.4,
@@ -48,7 +48,7 @@ returns c =
     let start = start.args in
     let none = field_end start.numbers.now l.i c.loop-i-test.false in
     let place : l.end ≡ start.at + length (fields_text start.numbers.now) = omega (arith, ap length none, l.invariant.3) in
-    ((place, omega arith), sym (ap (λ (x : List ℕ). store l.out-1 l.end x) none ∙ store_none l.out-1 l.end) ∙ l.invariant.4)
+    ((place, omega arith), sym (ap (λ (x : List ℕ). store l.out l.end x) none ∙ store_none l.out l.end) ∙ l.invariant.4)
 
 pub put_fields_spec : {M : Type 1} → statement M
 put_fields_spec =

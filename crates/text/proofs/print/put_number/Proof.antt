@@ -32,7 +32,7 @@ returns c =
     let text = digits.ensures.1.1 ∙ decimal_is digits.result start.n digits.ensures.1.0 most in
     let written = at_put.put.ensures in (
       (written.0 ∙ ap (λ (x : List ℕ). start.at + length x) text, omega (arith, written.0)),
-      written.1 ∙ ap (λ (x : List ℕ). store start.out-1.now start.at x) text,
+      written.1 ∙ ap (λ (x : List ℕ). store start.out.now start.at x) text,
     )
 
 pub put_number_spec : {M : Type 1} → statement M

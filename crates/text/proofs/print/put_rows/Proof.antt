@@ -38,8 +38,8 @@ loop_again c =
       omega arith,
       ap length row.ensures.1 ∙ length_store _ _ _ ∙ l.invariant.1,
       omega arith,
-      row_place l.out-1 row.new.0 start.ops.now l.end l.k start.rows row.result (omega arith) w ∙ l.invariant.3,
-      row_list l.out-1 row.new.0 start.ops.now l.end l.k start.rows row.result (omega arith) w ∙ l.invariant.4,
+      row_place l.out row.new.0 start.ops.now l.end l.k start.rows row.result (omega arith) w ∙ l.invariant.3,
+      row_list l.out row.new.0 start.ops.now l.end l.k start.rows row.result (omega arith) w ∙ l.invariant.4,
     )
 
 returns : tie.Need-returns invariant_loop decreases_loop
@@ -49,7 +49,7 @@ returns c =
     let l = c.before.loop-k in
     let none = rows_end l.k start.rows (drop (OP_WIDTH * l.k) start.ops.now) c.loop-k-test.false in (
       (omega (arith, ap length none, l.invariant.3), omega arith),
-      sym (ap (λ (x : List ℕ). store l.out-1 l.end x) none ∙ store_none l.out-1 l.end) ∙ l.invariant.4,
+      sym (ap (λ (x : List ℕ). store l.out l.end x) none ∙ store_none l.out l.end) ∙ l.invariant.4,
     )
 
 pub put_rows_spec : {M : Type 1} → statement M

@@ -22,7 +22,7 @@ returns c =
         at_write_stamps.write_stamps.ensures,
         at_put.put.ensures
             ∙ at_access_record.access_record-numbers.ensures
-            ∙ read_record a.bytes.now a.stamps-1.now a.src a.width a.stamp at_read_bytes.read_bytes-value.ensures old,
+            ∙ read_record a.bytes.now a.stamps.now a.src a.width a.stamp at_read_bytes.read_bytes-value.ensures old,
       ),
     )
 

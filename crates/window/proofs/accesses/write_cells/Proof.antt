@@ -23,7 +23,7 @@ returns c =
         at_write_stamps.write_stamps.ensures,
         at_put.put.ensures
             ∙ at_access_record.access_record-numbers.ensures
-            ∙ write_record a.bytes-1.now a.stamps-1.now a.dst a.width a.stamp a.value
+            ∙ write_record a.bytes.now a.stamps.now a.dst a.width a.stamp a.value
             at_read_bytes.read_bytes-old.ensures at_read_stamps.read_stamps-old_stamps.ensures,
       ),
     )

@@ -12,7 +12,7 @@ returns c =
     let at_if1 = at_put_bytes.before.before in
     let start = at_if1.before.before in
     let a = start.args in
-    at_put_bytes.put_bytes.ensures ∙ ap (λ (n : ℕ). write_bytes a.bytes-1.now a.at n a.value) (sym at_if1.if-width-eq8.true)
+    at_put_bytes.put_bytes.ensures ∙ ap (λ (n : ℕ). write_bytes a.bytes.now a.at n a.value) (sym at_if1.if-width-eq8.true)
 
 returns_2 : tie.Need-returns-else-width-eq8
 returns_2 c = c.before.before.put_bytes-else-width-eq8.ensures

@@ -12,7 +12,7 @@ returns c =
     let at_if1 = at_put_stamps.before.before in
     let start = at_if1.before.before in
     let a = start.args in
-    at_put_stamps.put_stamps.ensures ∙ ap (λ (n : ℕ). write_stamps a.stamps-1.now a.at n a.stamp) (sym at_if1.if-width-eq8.true)
+    at_put_stamps.put_stamps.ensures ∙ ap (λ (n : ℕ). write_stamps a.stamps.now a.at n a.stamp) (sym at_if1.if-width-eq8.true)
 
 returns_2 : tie.Need-returns-else-width-eq8
 returns_2 c = c.before.before.put_stamps-else-width-eq8.ensures
