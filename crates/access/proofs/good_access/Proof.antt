@@ -20,7 +20,7 @@ shared_slice_read_is_width c =
     let op = start.args.op.now in
     omega (arith, within_length access_limits op (sym at_within_limits.within_limits.ensures ∙ not-false _ c.before.if-not-within_limits.false))
 
-returns_2 : tie.Need-returns-then-not-within_limits
+returns_2 : tie.Need-returns
 unfolding good_access access_limits
 returns_2 c =
     let at_if1 = c.before.before in

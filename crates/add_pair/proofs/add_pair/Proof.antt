@@ -39,7 +39,7 @@ returns c =
       written = malformed_out _ _ _ _ _ (formed c.before) no _;
     }
 
-returns_2 : tie.Need-returns-then-not-is_form
+returns_2 : tie.Need-returns
 returns_2 c =
     let at_operand3 = c.before.before in
     let at_operand = at_operand3.before.before in

@@ -41,7 +41,7 @@ gap_too_large_lem c =
     (omega (arith, at_if1.if-gap-ge4294967296.true)))
     (omega arith)
 
-call_lines : tie.Need-returns-in_default
+call_lines : tie.Need-returns
 call_lines c =
     let at_if1 = c.before.before.before in
     let at_first = at_if1.before.before in

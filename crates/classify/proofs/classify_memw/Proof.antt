@@ -10,7 +10,7 @@ returns : tie.Need-returns-then-good_access
 unfolding classify_answer
 returns c = rw (sym c.before.before.good_access.ensures ∙ c.before.if-good_access.true) (ap (λ t. classify_numbers (Route t)) c.classify.ensures)
 
-returns_2 : tie.Need-returns-then-good_access
+returns_2 : tie.Need-returns
 unfolding classify_answer
 returns_2 c = rw (sym c.before.good_access.ensures ∙ c.if-good_access.false)
 

@@ -26,7 +26,7 @@ returns c =
       counted = refused_counts _ _ same _ other;
     }
 
-returns_2 : tie.Need-returns-then-routed-ne0
+returns_2 : tie.Need-returns
 returns_2 c =
     let at_if1 = c.before.before.before in
     let told = at_if1.before.before in

@@ -21,7 +21,7 @@ returns_2 c =
     let a = tested.before.before.args in
     too_short a.s a.n a.calls.now (le-ltb LIMIT a.n (omega arith)) (lt-ltb _ (HANDED_WIDTH * a.n) (omega arith))
 
-returns_3 : tie.Need-returns-then-wanted-gt-LIMIT
+returns_3 : tie.Need-returns
 returns_3 c =
     let wrote = c.before.before in
     let tested = wrote.before.before in

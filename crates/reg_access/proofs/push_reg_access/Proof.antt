@@ -33,7 +33,7 @@ returns c =
           ∙ ap (λ (x : RegAccess). x.written-record) p,
     )
 
-returns_2 : tie.Need-returns-then-address_fits
+returns_2 : tie.Need-returns
 unfolding built
 returns_2 c =
     let found = c.before.before in

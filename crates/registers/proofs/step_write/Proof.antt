@@ -28,7 +28,7 @@ returns_3 c =
     let known = c.before.before in
     rw (eq-eqb _ _ known.before.before.if-dst-index.false, le-ltb _ _ (fits known), ne_eqb _ _ c.before.if-state-ne1.true) c.refused-then-state-ne1.ensures
 
-returns_4 : tie.Need-returns-then-dst-index
+returns_4 : tie.Need-returns
 unfolding register_step
 returns_4 c =
     let known = c.before.before in

@@ -34,7 +34,7 @@ loop_again c =
       ),
     )
 
-equal : tie.Need-returns-then-a-b invariant_loop decreases_loop
+equal : tie.Need-returns invariant_loop decreases_loop
 equal c =
     let at = c.before in
     let start = at.before.before.args in

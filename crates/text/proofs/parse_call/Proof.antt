@@ -53,7 +53,7 @@ stamp_of_place c = c.before.before
 abbrev src_of : tie.After-tail-from_dst → tie.In-Number-second-2
 src_of c = c.before.before
 
-abbrev dst_of : tie.After-tail-from_stamp → tie.In-Number-third-2
+abbrev dst_of : tie.After-tail → tie.In-Number-third-2
 dst_of c = c.before.before
 
 abbrev line₂ : tie.After-tail-from_src → List ℕ
@@ -62,7 +62,7 @@ line₂ c = line (word_of_place (to_stamp (stamp_of_place c)))
 abbrev line₃ : tie.After-tail-from_dst → List ℕ
 line₃ c = line₂ (to_src (src_of c))
 
-abbrev line₄ : tie.After-tail-from_stamp → List ℕ
+abbrev line₄ : tie.After-tail → List ℕ
 line₄ c = line₃ (to_dst (dst_of c))
 
 -- what stands behind the first tabs
@@ -73,8 +73,8 @@ behind₂ c = c.tail-from_src.ensures ∙ ap (after 9) (to_stamp (stamp_of_place
 behind₃ : (c : tie.After-tail-from_dst) → c.tail-from_dst.result.now ≡ after 9 (after 9 (after 9 (line₃ c)))
 behind₃ c = c.tail-from_dst.ensures ∙ ap (after 9) (behind₂ (to_src (src_of c)))
 
-behind₄ : (c : tie.After-tail-from_stamp) → c.tail-from_stamp.result.now ≡ after 9 (after 9 (after 9 (after 9 (line₄ c))))
-behind₄ c = c.tail-from_stamp.ensures ∙ ap (after 9) (behind₃ (to_dst (dst_of c)))
+behind₄ : (c : tie.After-tail) → c.tail.result.now ≡ after 9 (after 9 (after 9 (after 9 (line₄ c))))
+behind₄ c = c.tail.ensures ∙ ap (after 9) (behind₃ (to_dst (dst_of c)))
 
 -- the fields that were read
 
@@ -137,7 +137,7 @@ no_count c =
     call_no_count _ _ _ _ _ (kind_at (word_of_place (to_stamp stamp))) (stamp_at_lem stamp) (src_at src) (dst_at dst)
     (read_number (behind₄ read.before) read.parse_number-fourth.ensures c.enum_told5.given.1)
 
-whole : tie.Need-returns-in_default
+whole : tie.Need-returns
 whole c =
     let read = c.before.before.before in
     let dst = dst_of read.before in

@@ -17,7 +17,7 @@ whole c =
     let word = compared.is_same.ensures ∙ ap (λ (w : List ℕ). same w gap_word) compared.before.before.head.ensures in
     c.parse_number.ensures ∙ ap number_of c.before.tail.ensures ∙ gap_whole _ (sym word ∙ test.if-is_same.true)
 
-other : tie.Need-returns-then-is_same
+other : tie.Need-returns
 other c =
     let compared = c.before in
     let word = compared.is_same.ensures ∙ ap (λ (w : List ℕ). same w gap_word) compared.before.before.head.ensures in

@@ -17,7 +17,7 @@ is_write c =
     word_write _ (sym first.before.is_same.ensures ∙ first.if-is_same.false) (sym second.before.is_same-2.ensures ∙ second.if-is_same-2.false)
     (sym c.before.is_same-3.ensures ∙ c.if-is_same-3.true)
 
-is_none : tie.Need-returns-then-is_same
+is_none : tie.Need-returns
 is_none c =
     let second = c.before.before.before in
     let first = second.before.before.before in

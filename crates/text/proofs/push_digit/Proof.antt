@@ -8,7 +8,7 @@ use Rattle.text.proofs.Numbers.{digit_low, digit_high, digit_past, digit_next}
 use Rattle.text.proofs.push_digit.Statement.{statement}
 use Rattle.text.proofs.push_digit.Tie as tie
 
-digit_taken : tie.Need-returns-then-b-lt48
+digit_taken : tie.Need-returns
 digit_taken c =
     let at_if2 = c.before.before.before in
     let a = at_if2.before.before.args in

@@ -9,7 +9,7 @@ returns c =
     let a = c.before.args in
     sym (lt-ltb a.end (a.at + a.count) (omega arith))
 
-returns_2 : tie.Need-returns-then-end-at
+returns_2 : tie.Need-returns
 returns_2 c =
     let a = c.before.args in
     past_by_difference a.end a.at a.count c.if-end-at.false

@@ -5,7 +5,7 @@ use Rattle.add_pair.proofs.Walks.{sum_nowhere, sum_past, sum_here}
 use Rattle.add_pair.proofs.flat.after_sum.Statement.{statement}
 use Rattle.add_pair.proofs.flat.after_sum.Tie as tie
 
-returns_3 : tie.Need-returns-in_default
+returns_3 : tie.Need-returns
 returns_3 c =
     let at_if1 = c.before.before in
     c.after_terms.ensures ∙ sum_here _ at_if1.before.before.place.given.1 at_if1.if-list-i.false

@@ -12,7 +12,7 @@ returns_3 c =
     sums_end _ at_sum.before.before.before.place.given.1 at_sum.after_sum.ensures at_end.is_end.ensures
     c.before.before.if-is_end.true c.before.number.ensures refl
 
-returns_4 : tie.Need-returns-in_default
+returns_4 : tie.Need-returns
 returns_4 c =
     let at_sum = c.before.before in
     sums_more _ at_sum.before.before.before.place.given.1 at_sum.after_sum.ensures

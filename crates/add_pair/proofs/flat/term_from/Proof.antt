@@ -12,7 +12,7 @@ returns_2 c =
     let value = c.before.before in
     term_constant _ _ (to_z-of_z {w = w64} (record { sfits = value.signed-value.type-inv })) value.signed-value.ensures value.before.number.ensures c.if-list-i-eq0.true
 
-returns_3 : tie.Need-returns-then-list-i
+returns_3 : tie.Need-returns
 returns_3 c =
     let value = c.before.before.before in
     term_column _ _ (to_z-of_z {w = w64} (record { sfits = value.signed-value.type-inv })) value.signed-value.ensures value.before.number.ensures c.before.if-list-i-eq0.false

@@ -49,7 +49,7 @@ loop_again c =
     let k = at.loop-k.k in
     (omega arith, at.loop-k.inv.1 ∙ first_miss (is_below l) k (call_count l) (omega arith) (le-ltb (stamp_at l k) (stamp_at l (k - 1)) (omega arith)))
 
-returns_2 : tie.Need-returns-then-stamp_at invariant_loop decreases_loop
+returns_2 : tie.Need-returns invariant_loop decreases_loop
 returns_2 c =
     let at = c.before in
     let l = calls_of_place at in

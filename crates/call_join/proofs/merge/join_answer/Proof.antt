@@ -131,7 +131,7 @@ returns_7 c =
     ∙ joined_fits (limit p) (first p) (second p) (room p) (few_first p) (few_second p) (good_first good) (good_second good) (order_first c.before)
     (order_second c.before) (omega (arith, count_first p, count_second p))
 
-returns_8 : tie.Need-returns-then-limit-n
+returns_8 : tie.Need-returns
 returns_8 c =
     let good = good_at c.before in
     let p = all good in

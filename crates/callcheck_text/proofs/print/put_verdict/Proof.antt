@@ -15,7 +15,7 @@ passes c =
     let verdict = at_test.before.before.before.args.verdict in
     written_at (wrote line.0.0 line.1) (verdict_passes verdict at_test.if-verdict-eq0.true) (omega arith)
 
-refuses : tie.Need-returns-then-verdict-eq0
+refuses : tie.Need-returns
 refuses c =
     let at_put_refused = c.before.before in
     let at_if1 = at_put_refused.before.before in

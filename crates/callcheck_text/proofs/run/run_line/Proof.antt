@@ -29,7 +29,7 @@ refused_call c =
     let done = call.collect_copy_ops-answer in
     step_stop _ _ _ _ _ _ _ _ _ told done.result done.ensures _ c.numbers.ensures c.before.match2.keys2
 
-accepted_call : tie.Need-returns-in_default
+accepted_call : tie.Need-returns
 accepted_call c =
     let answer = c.before in
     let call = to_call answer.before.before in

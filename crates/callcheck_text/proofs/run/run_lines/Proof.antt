@@ -88,7 +88,7 @@ loop_again c =
     running_turn (l₀_of (start_of at)) at.loop-at.line at.loop-at.inv (turn_at line) _ told.step2.given.1 _ line.run_line-step.ensures.1
     c.next_line-at.result c.next_line-at.ensures.1 c.next_line-at.ensures.2
 
-all_read : tie.Need-returns-in-Stop invariant_loop decreases_loop
+all_read : tie.Need-returns invariant_loop decreases_loop
 all_read c =
     let at = c.before in
     (few_rows at, turns_end _ _ (l_of at) at.loop-at.at at.loop-at.line at.loop-at.rows c.loop-at-test.false ∙ at.loop-at.invariant.goes_on)

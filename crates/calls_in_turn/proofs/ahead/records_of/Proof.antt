@@ -21,7 +21,7 @@ returns : tie.Need-returns-then-not-good_call
 unfolding added_by
 returns c = (rw (sym c.before.good_call.ensures ∙ not-true _ c.if-not-good_call.true), omega arith)
 
-returns_2 : tie.Need-returns-then-not-good_call
+returns_2 : tie.Need-returns
 unfolding added_by
 returns_2 c =
     let called = c.before.before in

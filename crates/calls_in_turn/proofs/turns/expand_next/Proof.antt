@@ -40,7 +40,7 @@ returns c =
     turned_none (under start.args.gap) start.args.call.now start.args.done (l_of start) start.pre
     (sym c.before.good_call.ensures ∙ not-true _ c.if-not-good_call.true)
 
-returns_2 : tie.Need-returns-then-not-good_call
+returns_2 : tie.Need-returns
 returns_2 c =
     let expanded = expanded_of c in
     let called = called_of expanded in

@@ -28,7 +28,7 @@ returns_2 c =
     let missed = c.before.before in
     simp (sym missed.before.is_register_op.ensures ∙ missed.if-is_register_op.false, sym c.before.is_aligned_op.ensures ∙ c.if-is_aligned_op.true)
 
-returns_3 : tie.Need-returns-then-is_register_op
+returns_3 : tie.Need-returns
 unfolding classify
 returns_3 c =
     let missed = c.before.before in

@@ -11,7 +11,7 @@ use Rattle.copy_residues.proofs.carries.step.Tie as tie
 width : ℕ → ℕ
 width s = add_p 8 (mul_p (p - 7) s)
 
-returns_3 : tie.Need-returns-then-single-eq0
+returns_3 : tie.Need-returns
 unfolding step
 returns_3 c =
     let at_mul = c.before in

@@ -13,5 +13,5 @@ dst_res_non_write_spec =
     (λ c κs. search rules) (λ c κs. search rules) (λ c κs. search rules) (λ c κs. search rules)
     (λ c. let at_cell2 = c.before.before in
     let at_cell = at_cell2.before.before in
-    rw (c.times.ensures.0, c.before.sub-moved.ensures.0, at_cell2.cell-2.ensures.0, at_cell2.before.sub-moved.ensures.0)
+    rw (c.times.ensures.0, c.before.sub.ensures.0, at_cell2.cell-2.ensures.0, at_cell2.before.sub-moved.ensures.0)
     (rw (at_cell.cell.ensures.0, at_cell.before.halves_word.ensures.0))))

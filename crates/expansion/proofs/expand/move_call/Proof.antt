@@ -56,7 +56,7 @@ read_pass_requires c κs =
     let some : 0 < a.call.count = omega (arith, at_if1.if-call-eq0.false) in
     pass_inside (call_of a.call) some a.bytes.now a.stamps.now a.ops.now a.accesses.now (p.0 some) p.1 p.3 p.4
 
-returns_3 : tie.Need-returns-then-call-eq0
+returns_3 : tie.Need-returns
 returns_3 c =
     let at_ops3 = c.before.before.before in
     let at_slice_known10 = at_ops3.before.before.before in

@@ -144,7 +144,7 @@ returns_7 c =
     same_short (c_of start) (n_of start) _ _ counted.before.op_count-ops.ensures.0 counted.access_count-accesses.ensures.0 _ c.if-ops_room-ops.true in
     sym (ap (with_accesses (c_of start)) (fair_short _ _ _ (fair_at counted.before.before.before) short))
 
-returns_8 : tie.Need-returns-then-gap-ge4294967296
+returns_8 : tie.Need-returns
 returns_8 c =
     let counted = c.before in
     let past_6 = counted.before.before.before in

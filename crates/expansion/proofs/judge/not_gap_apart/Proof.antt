@@ -18,7 +18,7 @@ returns_2 c =
     let call = start.args.call in
     rw (eq-eqb _ _ at_if1.if-call-ne1.false, ne_eqb call.dst (call.src + start.args.gap) (λ q. omega arith))
 
-returns_3 : tie.Need-returns-then-call-ne1
+returns_3 : tie.Need-returns
 returns_3 c =
     let at_if2 = c.before.before in
     let at_if1 = at_if2.before.before in

@@ -18,7 +18,7 @@ returns_3 c =
     let at_if1 = at_past.before in
     rw (ne_eqb _ _ at_if1.if-call-eq0.false, sym at_past.past.ensures ∙ at_if2.if-past.false, eq-eqb _ _ c.if-call-eq2.true)
 
-returns_4 : tie.Need-returns-then-call-eq0
+returns_4 : tie.Need-returns
 returns_4 c =
     let at_if2 = c.before.before.before in
     let at_past = at_if2.before in

@@ -31,7 +31,7 @@ read_cells_requires c κs =
     let a = start.args in
     (p.0, p.1, p.3, read_room (call_of a.call) at_if1.if-call-eq1.false p.4)
 
-returns_2 : tie.Need-returns-then-call-eq1
+returns_2 : tie.Need-returns
 returns_2 c =
     let at_stamps2 = c.before.before.before in
     let at_read_cells = at_stamps2.before in

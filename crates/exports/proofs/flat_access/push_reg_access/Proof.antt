@@ -53,7 +53,7 @@ returns_3 c =
     let s = start_of found in
     push_whole s.args.is_read (access s) (lent s) _ (answer_at told) at_if2.if-answer-ne0.false c.if-answer-ne0-2.true _ found.push_reg_access-access.ensures.1
 
-returns_4 : tie.Need-returns-then-is_read-gt1
+returns_4 : tie.Need-returns
 returns_4 c =
     let at_list = c.before.before.before in
     let at_if2 = at_list.before in

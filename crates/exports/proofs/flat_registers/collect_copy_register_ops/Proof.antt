@@ -72,7 +72,7 @@ returns_3 c =
     let s = start told.before in
     step_refused_lem (call s) s.args.state.now s.args.records.now _ (answer_at told) c.if-answer-ne0.true
 
-returns_4 : tie.Need-returns-then-no_kind
+returns_4 : tie.Need-returns
 returns_4 c =
     let at_if3 = c.before.before.before in
     let told = at_if3.before.before in

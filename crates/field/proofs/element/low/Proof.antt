@@ -16,7 +16,7 @@ mul_low_low c = omega (arith, low_low c.before.args.a c.before.args.b)
 returns : tie.Need-returns
 returns c =
     let a = c.before.before.args in
-    c.wrapping_add_u64-middle.ensures ∙ lower _ _ _ _ _ _ (halves a.a a.b) c.before.wrapping_add_u64-middle.ensures
+    c.wrapping_add_u64.ensures ∙ lower _ _ _ _ _ _ (halves a.a a.b) c.before.wrapping_add_u64-middle.ensures
 
 pub low_spec : {M : Type 1} → statement M
 low_spec =

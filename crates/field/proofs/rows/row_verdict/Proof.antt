@@ -10,7 +10,7 @@ returns_3 c =
     let tests = c.before.before in
     not_element _ _ _ (not-false _ tests.before.if-not-inside.false) (omega arith) c.before.first_large-place.ensures c.if-place-width.true
 
-returns_4 : tie.Need-returns-then-not-inside
+returns_4 : tie.Need-returns
 returns_4 c =
     let tests = c.before.before in
     fine _ _ _ (not-false _ tests.before.if-not-inside.false) (omega arith) c.before.first_large-place.ensures c.if-place-width.false

@@ -61,7 +61,7 @@ loop_again c =
     let good = sym (judged c.before) ∙ not-false _ c.if-not-good_record.false in
     (omega arith, at.loop-k.invariant.1 ∙ bad_pass (kind_width args.kind) (good_of_kind args.kind) args.list.now at.loop-k.k (omega arith) good)
 
-returns_2 : tie.Need-returns-then-not-good_record invariant_loop decreases_loop
+returns_2 : tie.Need-returns invariant_loop decreases_loop
 returns_2 c =
     let at = c.before in
     let args = at.before.before.args in

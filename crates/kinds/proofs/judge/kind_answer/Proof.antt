@@ -28,7 +28,7 @@ returns c = sym (answer_over _ _ _ _ _ (omega (arith, count_at c.before)))
 first_bad_requires : tie.Need-first_bad-bad-requires
 first_bad_requires c κs = (c.before.before.width_of_lem.ensures, count_at c.before)
 
-returns_2 : tie.Need-returns-then-limit-n
+returns_2 : tie.Need-returns
 returns_2 c =
     let found = c.before in
     let counted = found.before.before in

@@ -17,7 +17,7 @@ returns_2 c =
     let a = drawn.before.args in
     dst_write a.kind a.src _ a.index drawn.draw-drawn.ensures c.if-kind-eq2.true
 
-returns_3 : tie.Need-returns-then-kind-eq1
+returns_3 : tie.Need-returns
 returns_3 c =
     let test = c.before in
     let drawn = test.before in

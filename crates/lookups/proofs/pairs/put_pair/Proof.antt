@@ -55,7 +55,7 @@ returns c =
           ∙ sym (ap (λ (b : Bool). placed b PAIR_WIDTH a.end (pair_of (op tested)) a.lookups.now) yes);
     }
 
-returns_2 : tie.Need-returns-then-is_wanted
+returns_2 : tie.Need-returns
 returns_2 c =
     let tested = c.before in
     let a = (start_of tested).args in

@@ -4,7 +4,7 @@ use Rattle.operands.proofs.Pairs.{gated_none, gated_some}
 use Rattle.operands.proofs.value.gated.Statement.{statement}
 use Rattle.operands.proofs.value.gated.Tie as tie
 
-returns_2 : tie.Need-returns-then-conditions-eq0
+returns_2 : tie.Need-returns
 returns_2 c =
     (gated_some _ _ _ c.before.before.if-conditions-eq0.false c.mul.ensures.0 c.before.condition_sum.ensures.0, c.mul.ensures.1)
 

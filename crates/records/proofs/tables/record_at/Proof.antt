@@ -17,7 +17,7 @@ returns c =
     let rest = drop (a.w * a.k) list in
     take_all (length list - a.w * a.k) rest (rw length-drop (omega arith)) ∙ sym (take_all a.w rest (rw length-drop (omega arith)))
 
-returns_2 : tie.Need-returns-then-list-start
+returns_2 : tie.Need-returns
 returns_2 c =
     let a = c.before.before.args in
     record_part a.w a.list.now a.k

@@ -14,7 +14,7 @@ sub_result c = leading_le 64 _
 shl_result : tie.Need-overflow_shl-result
 shl_result c = zeros_short _ (search rules)
 
-returns_2 : tie.Need-returns-then-n-le4
+returns_2 : tie.Need-returns
 returns_2 c =
     least_unique (zeros_least c.before.args.n (search rules) (search rules)) (row_count_least _ (search rules))
 

@@ -32,7 +32,7 @@ returns_2 c limit allowed =
     rw c.before.row_count-rows.ensures at c.if-room-v.true in
     sym (answer_short limit _ _ _ _ allowed at_if1.if-bad-n.false room)
 
-returns_3 : tie.Need-returns-then-bad-n
+returns_3 : tie.Need-returns
 returns_3 c limit allowed =
     let at_if1 = c.before.before in
     let start = at_if1.before in

@@ -31,7 +31,7 @@ loop_again c =
     let i = at.i in
     (omega arith, at.invariant.1, ap (λ (b : Bool). b || ltb (get_or limits i 0) (get_or r i 0)) at.invariant.2 ∙ sym (any_more limits r i))
 
-returns_2 : tie.Need-returns-then-r-limits invariant_loop decreases_loop
+returns_2 : tie.Need-returns invariant_loop decreases_loop
 returns_2 c =
     let at = c.before.loop-i in
     let args = c.before.before.before.args in

@@ -85,7 +85,7 @@ returns_2 c = sym ((at_loop c.before).loop-left.inv ∙ within c.before c.if-lef
 loop_again : tie.Need-loop-left-preserved invariant_loop decreases_loop
 loop_again c = (at_loop c.before).loop-left.inv ∙ beyond c.before c.if-left-end.false
 
-returns_3 : tie.Need-returns-then-n-k invariant_loop decreases_loop
+returns_3 : tie.Need-returns invariant_loop decreases_loop
 returns_3 c =
     let at = c.before in
     let a = (start_of at).args in

@@ -49,7 +49,7 @@ loop_again c =
     let miss = sym (judged c.before) ∙ c.if-gives.false in
     at.loop-k.inv ∙ first_miss (gives_at l a.party a.right a.x) at.loop-k.k (whole_entries l) (omega arith) miss
 
-returns_2 : tie.Need-returns-then-gives invariant_loop decreases_loop
+returns_2 : tie.Need-returns invariant_loop decreases_loop
 returns_2 c =
     let at = c.before in
     let a = (start_of at).args in

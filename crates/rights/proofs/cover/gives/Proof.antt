@@ -22,7 +22,7 @@ returns_2 c =
     let own_at = c.before.before in
     let a = (start_of own_at.before).args in
     no_right a.party a.right a.x a.entry.now (sym own_at.before.number-owner.ensures ∙ own_at.if-owner-party.false)
-    (λ q. c.if-number-ne1.true (c.before.number-owner.ensures ∙ q))
+    (λ q. c.if-number-ne1.true (c.before.number.ensures ∙ q))
 
 returns_3 : tie.Need-returns-then-x-start
 returns_3 c =
@@ -30,9 +30,9 @@ returns_3 c =
     let own_at = has_at.before.before in
     let a = (start_of own_at.before).args in
     starts_above a.party a.right a.x a.entry.now (sym own_at.before.number-owner.ensures ∙ own_at.if-owner-party.false)
-    (sym has_at.before.number-owner.ensures ∙ has_at.if-number-ne1.false) (omega (arith, c.before.number-start.ensures))
+    (sym has_at.before.number.ensures ∙ has_at.if-number-ne1.false) (omega (arith, c.before.number-start.ensures))
 
-returns_4 : tie.Need-returns-then-owner-party
+returns_4 : tie.Need-returns
 returns_4 c =
     let from_at = c.before in
     let has_at = from_at.before.before in
@@ -41,7 +41,7 @@ returns_4 c =
     let start = from_at.before.number-start.ensures in
     (λ i. ltb (a.x - start i) (c.number-2.ensures i))
     ∙ by_difference a.party a.right a.x a.entry.now (sym own_at.before.number-owner.ensures ∙ own_at.if-owner-party.false)
-    (sym has_at.before.number-owner.ensures ∙ has_at.if-number-ne1.false) (omega (arith, start))
+    (sym has_at.before.number.ensures ∙ has_at.if-number-ne1.false) (omega (arith, start))
 
 pub gives_spec : {M : Type 1} → statement M
 gives_spec =

@@ -53,7 +53,7 @@ returns_2 c =
     let p = q.before in
     sym (lacks_none (call p) (party p) (entries p) (readable q) (λ h. absurd (h c.if-call-eq2.true)))
 
-returns_3 : tie.Need-returns-then-not-covers
+returns_3 : tie.Need-returns
 returns_3 c =
     let q = readable_of c in
     let p = q.before in

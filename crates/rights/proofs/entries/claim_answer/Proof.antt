@@ -61,7 +61,7 @@ returns_4 c =
     let p = few_of q in
     ap BadField bad ∙ answer_entry (party p) (entries p) (cells p) (few p) (inside q) (omega arith) (omega (arith, bad, count p))
 
-returns_5 : tie.Need-returns-then-n-gt-MOST_ENTRIES
+returns_5 : tie.Need-returns
 returns_5 c =
     let bad = c.before.first_bad-bad.ensures in
     let q = c.before.before.before in

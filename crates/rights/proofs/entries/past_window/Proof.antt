@@ -51,7 +51,7 @@ loop_again c =
     at.loop-k.inv
     ∙ first_miss (ends_past l a.cells) at.loop-k.k (whole_entries l) (omega arith) (sym (judged c.before) ∙ c.if-past.false)
 
-returns_2 : tie.Need-returns-then-past invariant_loop decreases_loop
+returns_2 : tie.Need-returns invariant_loop decreases_loop
 returns_2 c =
     let at = c.before in
     let a = (start_of at).args in

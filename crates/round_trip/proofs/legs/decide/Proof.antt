@@ -41,7 +41,7 @@ returns_3 c =
     let made : COLUMNS * row_count a.n ≤ a.table_room = rw at_row_count.row_count-rows.ensures at c.before.if-table_room-rows.false in
     rw (le-ltb LIMIT _ at_if1.if-n-gt-LIMIT.false, le-ltb _ _ made, c.if-ops_room-n.true)
 
-returns_4 : tie.Need-returns-then-n-gt-LIMIT
+returns_4 : tie.Need-returns
 unfolding decided
 returns_4 c =
     let at_row_count = c.before.before in

@@ -33,7 +33,7 @@ returns_2 c =
     let at = c.before in
     rw (le-ltb LIMIT _ (few at), ne_eqb (length (calls_of_place at) % HANDED_WIDTH) 0 (λ e. omega arith))
 
-returns_3 : tie.Need-returns-then-record_count-gt-LIMIT
+returns_3 : tie.Need-returns
 unfolding foretold
 returns_3 c =
     let counted = c.before in

@@ -130,7 +130,7 @@ loop_again c =
       at_loop.loop-k.inv.4 ∙ bad_pass ACCESS_WIDTH routable l k (omega arith) fine,
     )
 
-returns_3 : tie.Need-returns-then-not-good_access invariant_loop decreases_loop
+returns_3 : tie.Need-returns invariant_loop decreases_loop
 returns_3 c =
     let at_loop = c.before in
     judged_end (list_at at_loop) at_loop.loop-k.k at_loop.loop-k.counts (omega arith) at_loop.loop-k.invariant.3 at_loop.loop-k.invariant.4

@@ -68,7 +68,7 @@ put_at_requires_2 c κs =
     let room = (start_of found).requires.2 Aligned (ap (same_table Aligned) (to_aligned here)) in
     omega (arith, ap length (part found), whole found, room)
 
-put_at_requires_3 : tie.Need-put_at-requires-then-to_aligned
+put_at_requires_3 : tie.Need-put_at-requires-2
 put_at_requires_3 c κs =
     let here = c.before.before.before in
     let found = here.before.before in
@@ -106,7 +106,7 @@ returns_2 c =
     (put.put_at-then-to_aligned.ensures ∙ ap (store a.aligned.now (ACCESS_WIDTH * a.ends.aligned)) (part found)))
     (placed_not General Aligned (op found) a.ends a.general.now e refl)
 
-returns_3 : tie.Need-returns-then-to_register
+returns_3 : tie.Need-returns
 returns_3 c =
     let put = c.before.before.before in
     let here = put.before.before.before in

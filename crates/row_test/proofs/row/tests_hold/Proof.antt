@@ -29,7 +29,7 @@ passes : (c : tie.After-tail) → let a = (start_of c).args in
     (row_fault a.gap a.row.now ≡ Fine) ↔ (InRange a.row.now × Plain a.gap a.row.now)
 passes c = let pre = (start_of c).requires in plain_iff _ pre.0.0 _ pre.0.1
 
-returns_3 : tie.Need-returns-then-not-flags_at-tail
+returns_3 : tie.Need-returns
 returns_3 c =
     let counts = c.before.before in
     let moves = counts.before.before in

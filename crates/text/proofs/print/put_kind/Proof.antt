@@ -20,7 +20,7 @@ sets c =
     let first = test.before in
     rw (kind_set first.before.before.args.kind first.if-kind-eq0.false test.if-kind-eq1.true) ((word.0, omega arith), word.1)
 
-writes : tie.Need-returns-then-kind-eq0
+writes : tie.Need-returns
 writes c =
     let at_put3 = c.before.before in
     let test = at_put3.before.before.before in

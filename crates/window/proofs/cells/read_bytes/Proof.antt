@@ -11,7 +11,7 @@ returns c =
     let a = c.before.before.before.args in
     c.bytes_at.ensures ∙ ap (λ (n : ℕ). cells_at a.bytes.now a.at n) (sym c.before.if-width-eq8.true)
 
-returns_2 : tie.Need-returns-then-width-eq8
+returns_2 : tie.Need-returns
 returns_2 c = c.bytes_at-2.ensures
 
 pub read_bytes_spec : {M : Type 1} → statement M
