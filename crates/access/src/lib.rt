@@ -1,4 +1,6 @@
 // The access record: which runs of numbers are one; and the three tables that take accesses. Assumes nothing.
+#![tactic(auto)]
+
 ghost use Rattle.std.specs.Prelude.{◌≡◌};
 ghost use Rattle.access.specs.Access.{access_record, is_width, good_access};
 ghost use Rattle.access.specs.RegisterAccess.{register_access};

@@ -1,5 +1,7 @@
 // `emit_add_pair` and `add_pair_carry_hi` for callers that have numbers and slices only: operands as flat lists. specs/Flat has the form.
 // Assumes nothing.
+#![tactic(auto)]
+
 mod flat;
 
 ghost use Rattle.std.specs.Prelude.{◌≡◌};

@@ -1,5 +1,7 @@
 // What every entry answers in numbers, for callers on the other side of a C boundary and for comparisons: a refusal's
 // number, its place and a value. Assumes nothing.
+#![tactic(auto)]
+
 ghost use Rattle.std.specs.Prelude.{◌≡◌};
 ghost use Rattle.answer.specs.Numbers.{accepted, refused};
 

@@ -1,4 +1,6 @@
 // A call, its kinds and its record, and the record of a right. Assumes nothing.
+#![tactic(auto)]
+
 pub mod flat;
 
 ghost use Rattle.std.specs.Prelude.{◌≡◌};

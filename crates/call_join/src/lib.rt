@@ -1,5 +1,7 @@
 // Two lists of calls made into one. Document 02: "The joined list is in order, has each call of both once and no other, keeps each list's
 // own order and puts the first list's call ahead at equal stamps." Every pair of lists has an answer. Assumes nothing.
+#![tactic(auto)]
+
 pub mod merge;
 
 ghost use Rattle.std.specs.Prelude.{◌≡◌};

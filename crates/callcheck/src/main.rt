@@ -3,6 +3,8 @@
 // output (`PrefixDecides` of callcheck_text): line 1 with its newline has at most 25 bytes or is refused, a call line at most 90, each
 // accepted call has a row, and with 32 rows there is no room for another. The output has at most 32 lines of 178 bytes and the verdict's
 // line.
+#![tactic(auto)]
+
 fn main() {
     let mut input = io::buffer();
     let n = io::read_full(0, &mut input);

@@ -1,5 +1,7 @@
 // What `callcheck` prints for an input of any bytes and any length. Document 01: "A program `callcheck` reads a line `gap`, tab, number,
 // then call lines". Assumes nothing.
+#![tactic(auto)]
+
 pub mod print;
 pub mod run;
 

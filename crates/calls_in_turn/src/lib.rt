@@ -1,4 +1,6 @@
 // Calls that go to the expansion in turn over one window. Nothing here is open to callers. Assumes nothing.
+#![tactic(auto)]
+
 pub mod ahead;
 pub mod turns;
 

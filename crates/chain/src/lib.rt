@@ -1,6 +1,8 @@
 // The chain check: whether a list of copy rows, which anybody may have filled in, is whole calls. Document 01: "Chain check and read-back
 // (added)". Document 02: "a row check (14, 15, 16) and a link check (17, 18) over rows that passed, not itself open to callers". A row list
 // has no limit. Assumes nothing.
+#![tactic(auto)]
+
 pub mod check;
 mod link;
 

@@ -1,5 +1,7 @@
 // The route of one access: which of the three access tables takes it. Document 01: "`classify_memw` routes: register if .., else aligned
 // if .., else general." Document 02: "Let the route's register answer carry it", the low stamp difference less one. Assumes nothing.
+#![tactic(auto)]
+
 pub mod route;
 
 ghost use Rattle.std.specs.Prelude.{◌≡◌};

@@ -1,4 +1,6 @@
 // What a copy row that passes its checks says in plain numbers. Assumes nothing.
+#![tactic(auto)]
+
 ghost use Rattle.std.specs.Prelude.{◌≡◌, true};
 ghost use Rattle.copy_meaning.specs.Theorems.{RowMeaning};
 

@@ -1,5 +1,7 @@
 // The 40 residues of a copy row, open to callers one at a time: any gap, any slice of numbers and any residue number. Document 01: "The 40
 // residues are those of `CopyConstraints`, gap for `DMA_MEMSET_GAP`." Assumes nothing.
+#![tactic(auto)]
+
 pub mod carries;
 mod cells;
 mod equations;

@@ -1,5 +1,7 @@
 // The copy table: operation records in a lent list become rows in a lent table. Document 01: "Copy row (`generate_copy_trace`)".
 // Assumes nothing.
+#![tactic(auto)]
+
 pub mod cols;
 pub mod row;
 pub mod trace;

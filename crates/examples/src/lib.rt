@@ -1,4 +1,6 @@
 // The starred examples of document 01, under one theorem. Assumes nothing.
+#![tactic(auto)]
+
 ghost use Rattle.std.specs.Prelude.{◌≡◌, true};
 ghost use Rattle.examples.specs.Examples.{StarredExamples};
 

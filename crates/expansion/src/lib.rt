@@ -1,5 +1,7 @@
 // The expansion of one call over a window. Document 01: "Expansion (`collect_copy_ops`)". Every call has an answer, and a refusal writes
 // nothing. Assumes nothing.
+#![tactic(auto)]
+
 ghost use Rattle.std.specs.Prelude.{◌≡◌};
 ghost use Rattle.call.specs.Calls.{call_with};
 ghost use Rattle.expansion.specs.Refusals.{expansion_numbers};

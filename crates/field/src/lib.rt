@@ -1,5 +1,7 @@
 // Field operations open to callers: add, subtract and multiply modulo p = 2^64 - 2^32 + 1, for any two 64-bit numbers. A number not below
 // p is refused (document 01's refusal 14, with its index as the place). Assumes nothing.
+#![tactic(auto)]
+
 pub mod element;
 pub mod rows;
 

@@ -1,4 +1,6 @@
 // The kinds of records that lists hold: how many numbers a record of each has, and which runs of numbers are one. Assumes nothing.
+#![tactic(auto)]
+
 pub mod judge;
 
 ghost use Rattle.std.specs.Prelude.{◌≡◌};

@@ -1,5 +1,7 @@
 // A load: calls that are drawn from one number, and so the same each time. Document 02: "It hands in the first s and the number of calls,
 // and gets five numbers for each call, as read-back orders them." Assumes nothing.
+#![tactic(auto)]
+
 mod draws;
 
 ghost use Rattle.std.specs.Prelude.{◌≡◌};

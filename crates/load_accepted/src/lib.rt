@@ -1,4 +1,6 @@
 // The expansion accepts every call of a load: the theorems, as contracts of functions. Assumes nothing.
+#![tactic(auto)]
+
 ghost use Rattle.std.specs.Prelude.{◌≡◌, true};
 ghost use Rattle.load_accepted.specs.LoadAccepted.{LoadAccepted};
 ghost use Rattle.load_accepted.specs.Instances.{Instances};

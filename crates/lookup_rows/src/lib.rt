@@ -1,4 +1,6 @@
 // The lookups are those of the register table's rows: the theorem, as the contract of a function. Assumes nothing.
+#![tactic(auto)]
+
 ghost use Rattle.std.specs.Prelude.{◌≡◌, true};
 ghost use Rattle.lookup_rows.specs.LookupRows.{LookupRows, RowInstances};
 

@@ -1,5 +1,7 @@
 // The lookups of an access list: two bytes for each record that goes to the register table. Document 02: "Add a call that writes an access
 // list's lookups, low byte then high byte, one pair for each register record in arrival order." Every list has an answer. Assumes nothing.
+#![tactic(auto)]
+
 pub mod pairs;
 
 ghost use Rattle.std.specs.Prelude.{◌≡◌};

@@ -1,5 +1,7 @@
 // The three access tables: access records and register records in a lent list become rows in a lent table. Document 01: "Registers and
 // the three access tables". Assumes nothing.
+#![tactic(auto)]
+
 pub mod aligned_cols;
 pub mod cols;
 pub mod register_cols;

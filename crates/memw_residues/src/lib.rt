@@ -1,5 +1,7 @@
 // The residues of the three access tables, open to callers one at a time: any slice of numbers and any residue number. Document 01:
 // "General table and residues (49 columns, 15): memw.rs". Assumes nothing.
+#![tactic(auto)]
+
 pub mod equations;
 pub mod residues;
 

@@ -1,6 +1,8 @@
 // Operands of a 64-bit sum and the sum's two residues, on one copy row. Document 01: "An `AddOperand` is two neighbouring word columns, or
 // a low and a high sum of at most four terms"; `emit_add_pair` and `add_pair_carry_hi` of the templates, evaluated on a row. The terms
 // stand in arrays beside the kind. Assumes nothing.
+#![tactic(auto)]
+
 pub mod judge;
 pub mod value;
 

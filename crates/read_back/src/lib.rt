@@ -1,5 +1,7 @@
 // Read-back: the operation records and the calls of a row list that passes the chain check. Document 01: "Read-back writes one operation
 // record for each live row and five numbers for each call". Assumes nothing.
+#![tactic(auto)]
+
 pub mod rows;
 
 ghost use Rattle.std.specs.Prelude.{◌≡◌};

@@ -1,4 +1,6 @@
 // Lists of records that become tables: what every table maker answers. Assumes nothing.
+#![tactic(auto)]
+
 ghost use Rattle.std.specs.Prelude.{◌≡◌};
 ghost use Rattle.records.specs.Table.{table_numbers};
 

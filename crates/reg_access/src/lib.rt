@@ -1,5 +1,7 @@
 // One access of a register, by its six inputs: its route and its record in the route's list. Document 01: `push_reg_access`.
 // Assumes nothing.
+#![tactic(auto)]
+
 ghost use Rattle.std.specs.Prelude.{◌≡◌, ◌++◌, ◌-◌, replicate};
 ghost use Rattle.words.specs.Words.{bit};
 ghost use Rattle.access.specs.Access.{ACCESS_WIDTH, access_record};

@@ -1,5 +1,7 @@
 // The registers that calls read and write, and the register step of one call: its access records and the state behind them. Every call
 // has an answer. Assumes nothing.
+#![tactic(auto)]
+
 ghost use Rattle.std.specs.Prelude.{◌≡◌, ◌++◌, ◌+◌, ◌-◌, ◌*◌, ◌^◌, ◌≤◌, ◌<◌, length};
 ghost use Rattle.access.specs.Access.{ACCESS_WIDTH};
 ghost use Rattle.registers.specs.Step.{new_state, wrote, step_numbers, read_back, committed, step_refused, register_step};

@@ -1,6 +1,8 @@
 // Internal to the workspace, not open to callers: what the programs that replay recorded answers share, numbers read from a text and
 // answers printed. A recorded question is a line of numbers, first that of the function, and its answer is printed one number to a line.
 // Assumes nothing but what each `requires` says.
+#![tactic(auto)]
+
 ghost use Rattle.std.specs.Prelude.{length, ◌≤◌, ◌<◌};
 ghost use Rattle.io.specs.Counts.{IsPrefixLen};
 

@@ -1,6 +1,8 @@
 // Replays recorded questions on the access tables through the exported functions. A question is the function's number and its parameters, a
 // list as its length and its numbers; the answer's three numbers are printed, then each lent list afterwards. The file stdout has the
 // oracle's answers.
+#![tactic(auto)]
+
 ghost use Rattle.std.specs.Prelude.{length, ◌≤◌, ◌<◌};
 
 use answer::Answer;

@@ -1,5 +1,7 @@
 // Replays recorded inputs of the program `callcheck` through `callcheck_text::answer`. A question is 0, then the input's length and its bytes;
 // 0, 0 and the output's length are printed, then the output as a list. The file stdout has the oracle's answers.
+#![tactic(auto)]
+
 ghost use Rattle.std.specs.Prelude.{length, ◌≤◌, ◌<◌};
 
 use answer::Answer;

@@ -2,6 +2,8 @@
 // parameters, a list as its length and its numbers; the answer's three numbers are printed, then each lent list afterwards. A window past the
 // first edges is not written out: its cells are numbered, and those that a call changed are printed last. The file stdout has the oracle's
 // answers.
+#![tactic(auto)]
+
 ghost use Rattle.std.specs.Prelude.{◌≡◌, length, ◌≤◌, ◌<◌};
 
 use answer::Answer;

@@ -1,5 +1,7 @@
 // Replays recorded questions to the field functions through their exported form: each is the function (0 add, 1 subtract, 2 multiply) and
 // two numbers, and the answer's three numbers are printed. The file stdout has the oracle's answers.
+#![tactic(auto)]
+
 use answer::Answer;
 
 fn ask(function: u64, a: u64, b: u64) -> Answer {

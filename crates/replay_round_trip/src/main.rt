@@ -1,6 +1,8 @@
 // Replays recorded questions through `round_trip::round_trip`. A question is 0, the gap, then the calls and the seven lent lists, each as
 // its length and its numbers; the answer's number, place and value are printed, the rows and calls as a list of two, then each lent list
 // afterwards. The file stdout has what the oracle's steps give, one after the other.
+#![tactic(auto)]
+
 ghost use Rattle.std.specs.Prelude.{length, ◌≤◌, ◌<◌};
 
 use answer::Answer;

@@ -1,5 +1,7 @@
 // Who may read and write which bytes: the entries that are lent, and what they give a party. Nothing here is open to callers: the
 // expansion asks. Assumes nothing.
+#![tactic(auto)]
+
 pub mod cover;
 pub mod entries;
 

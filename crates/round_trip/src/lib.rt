@@ -1,5 +1,7 @@
 // The whole way, open to callers: calls in, table, check, and back. Document 01: "The accepted calls' operation records, joined in the
 // list's order, go to the copy table's maker. Where it refuses nothing, the rows written pass under that gap." Assumes nothing.
+#![tactic(auto)]
+
 pub mod legs;
 
 ghost use Rattle.std.specs.Prelude.{◌≡◌, true};

@@ -1,5 +1,7 @@
 // A list of access records routed into three lists, for the general, the aligned and the register table. Every list has an answer.
 // Assumes nothing.
+#![tactic(auto)]
+
 pub mod split;
 
 ghost use Rattle.std.specs.Prelude.{◌≡◌};

@@ -1,5 +1,7 @@
 // The row check: whether one copy row, which anybody may have filled in, is right by itself. Document 02: "Our fitters look at a single
 // suspicious row with no neighbours." The chain check asks the same of each of its rows. Assumes nothing.
+#![tactic(auto)]
+
 pub mod fault;
 
 ghost use Rattle.std.specs.Prelude.{◌≡◌, true};

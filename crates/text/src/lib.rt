@@ -1,6 +1,8 @@
 // The text that `callcheck` reads: pieces of a line, decimal numbers, the gap line and the call lines. Document 01: "A program
 // `callcheck` reads a line `gap`, tab, number, then call lines, tab-parted". Every reader takes any bytes. What it prints stands in `print`.
 // Assumes nothing.
+#![tactic(auto)]
+
 pub mod print;
 pub mod walk;
 

@@ -1,5 +1,7 @@
 // The theorems that specs/ of other crates state, each the contract of a function that is named for it. Those of the starred examples, of
 // one copy row, of made rows, of demand 3, of the round trip and of callcheck stand in crates of their own. Assumes nothing.
+#![tactic(auto)]
+
 ghost use Rattle.std.specs.Prelude.{◌≡◌, true, List};
 ghost use Rattle.theorems.specs.Named.{NamedNumbers};
 ghost use Rattle.lists.specs.Lists.{FirstIsLowest};

@@ -1,4 +1,6 @@
 // Demand 3, as the contract of a function. Assumes nothing.
+#![tactic(auto)]
+
 ghost use Rattle.std.specs.Prelude.{◌≡◌, true};
 ghost use Rattle.whole_calls.specs.Demand.{Demand3};
 ghost use Rattle.whole_calls.specs.Halves.{Halves};

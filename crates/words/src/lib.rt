@@ -1,5 +1,7 @@
 // A 64-bit number as words and halves, lowest first, a byte as a number, and sums, plain and taken modulo 2^64. Every function has a result for every input.
 // Assumes nothing.
+#![tactic(auto)]
+
 ghost use Rattle.std.specs.Prelude.{◌≡◌, ◌+◌, ◌<◌, nat_lt};
 ghost use Rattle.words.specs.Words.{words, halves, low_word, high_word, bit, wrap_add, wrap_sub};
 
