@@ -8,7 +8,7 @@ use Rattle.callcheck.proofs.main.Statement.{statement}
 use Rattle.callcheck.proofs.main.Tie as tie
 
 part_write_all_end : tie.Need-slice_bounds-write_all-end
-part_write_all_end c = omega (arith, simp length_store at (ap length c.before.answer-k.ensures.1))
+part_write_all_end c = omega (arith, simp length_store at (ap length c.before.answer-k.ensures.out))
 
 pub main_spec : {M : Type 1} → statement M
 main_spec =

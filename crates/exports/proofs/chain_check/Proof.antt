@@ -6,4 +6,4 @@ use Rattle.exports.proofs.chain_check.Tie as tie
 
 pub chain_check_spec : {M : Type 1} → statement M
 chain_check_spec =
-    tie.close (tie.spec (λ c κs. search rules) (λ c κs. search rules) (λ c. c.chain_numbers.ensures ∙ c.before.chain_check.ensures))
+    tie.close (tie.spec (λ c κs. search rules) (λ c κs. search rules) (λ c. c.chain_numbers.ensures ∙ c.before.chain_check.ensures.answer))

@@ -6,4 +6,4 @@ use Rattle.exports.proofs.copy_residue.Tie as tie
 
 pub copy_residue_spec : {M : Type 1} → statement M
 copy_residue_spec =
-    tie.close (tie.spec (λ c κs. search rules) (λ c κs. search rules) (λ c. c.residue_numbers.ensures ∙ c.before.residue.ensures))
+    tie.close (tie.spec (λ c κs. search rules) (λ c κs. search rules) (λ c. c.residue_numbers.ensures ∙ c.before.residue.ensures.answer))

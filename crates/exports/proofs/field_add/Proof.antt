@@ -6,4 +6,4 @@ use Rattle.exports.proofs.field_add.Tie as tie
 
 pub field_add_spec : {M : Type 1} → statement M
 field_add_spec =
-    tie.close (tie.spec (λ c κs. search rules) (λ c κs. search rules) (λ c. c.numbers.ensures ∙ c.before.field_add.ensures))
+    tie.close (tie.spec (λ c κs. search rules) (λ c κs. search rules) (λ c. c.numbers.ensures ∙ c.before.field_add.ensures.answer))

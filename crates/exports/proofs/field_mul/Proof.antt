@@ -6,4 +6,4 @@ use Rattle.exports.proofs.field_mul.Tie as tie
 
 pub field_mul_spec : {M : Type 1} → statement M
 field_mul_spec =
-    tie.close (tie.spec (λ c κs. search rules) (λ c κs. search rules) (λ c. c.numbers.ensures ∙ c.before.field_mul.ensures))
+    tie.close (tie.spec (λ c κs. search rules) (λ c κs. search rules) (λ c. c.numbers.ensures ∙ c.before.field_mul.ensures.answer))

@@ -6,4 +6,4 @@ use Rattle.exports.proofs.field_sub.Tie as tie
 
 pub field_sub_spec : {M : Type 1} → statement M
 field_sub_spec =
-    tie.close (tie.spec (λ c κs. search rules) (λ c κs. search rules) (λ c. c.numbers.ensures ∙ c.before.field_sub.ensures))
+    tie.close (tie.spec (λ c κs. search rules) (λ c κs. search rules) (λ c. c.numbers.ensures ∙ c.before.field_sub.ensures.answer))

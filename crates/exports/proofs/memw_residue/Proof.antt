@@ -6,4 +6,4 @@ use Rattle.exports.proofs.memw_residue.Tie as tie
 
 pub memw_residue_spec : {M : Type 1} → statement M
 memw_residue_spec =
-    tie.close (tie.spec (λ c κs. search rules) (λ c κs. search rules) (λ c. c.memw_residue_numbers.ensures ∙ c.before.memw_residue.ensures))
+    tie.close (tie.spec (λ c κs. search rules) (λ c κs. search rules) (λ c. c.memw_residue_numbers.ensures ∙ c.before.memw_residue.ensures.answer))

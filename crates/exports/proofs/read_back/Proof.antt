@@ -15,8 +15,8 @@ returns c =
     let read = back.read_back.ensures in
     record {
       read = record { answer = refl; ops_left = read.ops_left; calls_left_lem = read.calls_left_lem };
-      answer = c.read_back_numbers.ensures.0 ∙ ap (λ (n : ReadBackNumbers). n.answer) read.answer;
-      counted = c.read_back_numbers.ensures.1 ∙ ap (λ (n : ReadBackNumbers). counts_after n entry.args.counts.now) read.answer;
+      answer = c.read_back_numbers.ensures.answer ∙ ap (λ (n : ReadBackNumbers). n.answer) read.answer;
+      counted = c.read_back_numbers.ensures.counts ∙ ap (λ (n : ReadBackNumbers). counts_after n entry.args.counts.now) read.answer;
     }
 
 pub read_back_spec : {M : Type 1} → statement M

@@ -6,4 +6,4 @@ use Rattle.exports.proofs.row_check.Tie as tie
 
 pub row_check_spec : {M : Type 1} → statement M
 row_check_spec =
-    tie.close (tie.spec (λ c κs. search rules) (λ c κs. search rules) (λ c. c.row_numbers.ensures ∙ c.before.row_check.ensures))
+    tie.close (tie.spec (λ c κs. search rules) (λ c κs. search rules) (λ c. c.row_numbers.ensures ∙ c.before.row_check.ensures.answer))

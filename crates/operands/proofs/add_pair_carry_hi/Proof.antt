@@ -28,7 +28,7 @@ returns : tie.Need-returns-in-Fine
 unfolding carry_answer
 returns c =
     let told = c.before in
-    ap carry_numbers (ap Carry c.carries-c.ensures.1.0 ∙ answer_of _ _ (found told.before.before) told.enum_told.given.1)
+    ap carry_numbers (ap Carry c.carries-c.ensures.high.0 ∙ answer_of _ _ (found told.before.before) told.enum_told.given.1)
 
 pub add_pair_carry_hi_spec : {M : Type 1} → statement M
 unfolding carry_answer

@@ -12,6 +12,6 @@ put_spec =
     tie.close
     (tie.spec
     (λ c κs. search rules) (λ c κs. search rules) (λ c. search rules) (λ c. search rules)
-    (λ c. omega (arith, simp length_store at (ap length c.before.before.answer-k.ensures.1)))
+    (λ c. omega (arith, simp length_store at (ap length c.before.before.answer-k.ensures.out)))
     (λ c κs. search rules)
     (λ c. search rules))

@@ -8,4 +8,4 @@ pub head_spec : {M : Type 1} → statement M
 head_spec =
     tie.close
     (tie.spec (λ c κs. search rules) (λ c. search rules) (λ c. search rules) (λ c. search rules)
-    (λ c. head_is _ _ _ c.before.position-end.ensures.0))
+    (λ c. head_is _ _ _ c.before.position-end.ensures.value))

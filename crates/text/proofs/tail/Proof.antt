@@ -11,5 +11,5 @@ tail_spec =
     (tie.spec
     (λ c κs. search rules) (λ c. search rules) (λ c. search rules) (λ c. search rules) (λ c. search rules)
     (λ c. search rules) (λ c. search rules) (λ c. search rules)
-    (λ c. tail_is _ _ _ c.before.before.position-end.ensures.0)
-    (λ c. tail_none _ _ _ c.before.before.position-end.ensures.0 c.before.if-end-text.false))
+    (λ c. tail_is _ _ _ c.before.before.position-end.ensures.value)
+    (λ c. tail_none _ _ _ c.before.before.position-end.ensures.value c.before.if-end-text.false))

@@ -24,7 +24,7 @@ to_ran c =
     told.before
 
 most : (c : tie.In-Done-2) → c.ran.given.0.0 ≤ ROWS
-most c = rows_most _ _ (to_lines c.before.before).run_lines-ran.ensures.0 c.ran.given.1
+most c = rows_most _ _ (to_lines c.before.before).run_lines-ran.ensures.rows c.ran.given.1
 
 all_accepted : tie.Need-returns-in-Done
 all_accepted c =

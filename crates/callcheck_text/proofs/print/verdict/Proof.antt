@@ -31,7 +31,7 @@ returns c =
     let at_numbers = at_table3.before in
     let made = at_numbers.before.before.generate_copy_trace-made.ensures in
     c.chain_numbers.ensures
-    ∙ c.before.chain_check.ensures
+    ∙ c.before.chain_check.ensures.answer
     ∙ verdict_is _ _ _ _ (made_rows at_numbers.numbers-rows.ensures made.answer) made.written
 
 pub verdict_spec : {M : Type 1} → statement M

@@ -63,7 +63,7 @@ turn_at c =
       more = head.before.before.loop-at-test.taken;
       fits = at.loop-at.inv.room;
       line = head.head.ensures;
-      came = c.run_line-step.ensures.0;
+      came = c.run_line-step.ensures.step;
     }
 
 line_refused : tie.Need-returns-in-Stop invariant_loop decreases_loop
@@ -85,7 +85,7 @@ loop_again c =
     let told = c.before.before in
     let line = line_of told.before.before in
     let at = loop_of (head_of line) in
-    running_turn (l₀_of (start_of at)) at.loop-at.line at.loop-at.inv (turn_at line) _ told.step2.given.1 _ line.run_line-step.ensures.1
+    running_turn (l₀_of (start_of at)) at.loop-at.line at.loop-at.inv (turn_at line) _ told.step2.given.1 _ line.run_line-step.ensures.slices
     c.next_line-at.result c.next_line-at.ensures.1 c.next_line-at.ensures.2
 
 all_read : tie.Need-returns invariant_loop decreases_loop

@@ -31,11 +31,11 @@ linked_spec =
     (tie.spec
     (λ c κs. search rules)
     (λ c. rw (standing_none _ c.before.if-previous-eq0.true) c.may_open.ensures)
-    (λ c. omega (arith, (row_stood _ (entry_of c.before).requires.1 (omega arith)).0))
+    (λ c. omega (arith, (row_stood _ (entry_of c.before).requires.stood (omega arith)).0))
     (λ c. search rules)
     (λ c. let row = c.before.before.before in
     rw (standing_dead (previous_of row) (omega arith) c.before.if-previous-ne1.true) (sym (linked_dead (row_of_lem row))))
-    (λ c. omega (arith, (row_stood _ (entry_of (live_of c.before)).requires.1 (omega arith)).0))
+    (λ c. omega (arith, (row_stood _ (entry_of (live_of c.before)).requires.stood (omega arith)).0))
     (λ c κs. search rules)
     (λ c. let live = c.before.before.before in
     rw (standing_ended (previous_of (live_of live)) (omega arith) live.if-previous-ne1.false c.before.if-previous-eq1.true) c.may_open-then-previous-eq1.ensures)

@@ -15,5 +15,5 @@ moved_spec =
     (λ c.
     let second = c.before.before.before in
     let start = second.before.before.before in
-    let pre = start.requires.1 in
+    let pre = start.requires.two_words in
     moved_same _ _ _ _ pre.0 pre.1))

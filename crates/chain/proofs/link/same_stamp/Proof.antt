@@ -15,7 +15,7 @@ same_stamp_spec =
     (λ c.
     let second = c.before.before in
     let start = second.before.before in
-    let caps = start.requires.1 in
+    let caps = start.requires.caps in
     let row = start.args.row.now in
     let previous = start.args.previous.now in
     stamp_same row previous (stamp_words_lem row (in_range row caps.1)).low (stamp_words_lem previous (in_range previous caps.0)).low))

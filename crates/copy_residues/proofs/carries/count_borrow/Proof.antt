@@ -11,8 +11,8 @@ unfolding decr_high
 returns c =
     let at_halves_word = c.before.before in
     let start = at_halves_word.before.before in (
-      rw (c.carry_high.ensures.0, c.before.cell.ensures.0, at_halves_word.halves_word.ensures.0, start.requires.1.0)
-          (sym (carried start.requires.0)),
+      rw (c.carry_high.ensures.0, c.before.cell.ensures.0, at_halves_word.halves_word.ensures.0, start.requires.is.0)
+          (sym (carried start.requires.elements)),
       search rules,
     )
 

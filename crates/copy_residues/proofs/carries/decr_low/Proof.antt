@@ -12,4 +12,4 @@ decr_low_spec =
     (λ c κs. search rules) (λ c κs. search rules) (λ c κs. search rules)
     (λ c. let at_halves_word = c.before.before in
     let start = at_halves_word.before.before in
-    (rw (c.carry_low.ensures.0, c.before.cell.ensures.0, at_halves_word.halves_word.ensures.0, start.requires.1.0), search rules)))
+    (rw (c.carry_low.ensures.0, c.before.cell.ensures.0, at_halves_word.halves_word.ensures.0, start.requires.is.0), search rules)))

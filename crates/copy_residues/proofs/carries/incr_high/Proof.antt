@@ -12,4 +12,4 @@ incr_high_spec =
     (λ c. search rules) (λ c κs. search rules) (λ c. search rules) (λ c κs. search rules) (λ c κs. search rules)
     (λ c. let at_cell = c.before.before in
     let start = at_cell.before.before in
-    (rw (c.carry_high.ensures.0, c.before.halves_word.ensures.0, at_cell.cell.ensures.0, start.requires.1.0), search rules)))
+    (rw (c.carry_high.ensures.0, c.before.halves_word.ensures.0, at_cell.cell.ensures.0, start.requires.is.0), search rules)))

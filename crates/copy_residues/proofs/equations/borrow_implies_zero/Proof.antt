@@ -11,4 +11,4 @@ borrow_implies_zero_spec =
     (tie.spec
     (λ c κs. search rules) (λ c κs. search rules)
     (λ c. let start = c.before.before.before in
-    rw (c.times.ensures.0, c.before.cell.ensures.0, start.requires.1.0)))
+    rw (c.times.ensures.0, c.before.cell.ensures.0, start.requires.is.0)))

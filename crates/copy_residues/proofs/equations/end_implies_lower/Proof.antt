@@ -15,4 +15,4 @@ end_implies_lower_spec =
     let at_sub = at_cell2.before.before in
     let start = at_sub.before.before.before in
     rw (c.times.ensures.0, c.before.sub-2.ensures.0, at_cell2.cell-2.ensures.0, at_cell2.before.times-ends.ensures.0)
-    (rw (at_sub.sub.ensures.0, at_sub.before.cell.ensures.0, start.requires.1.0.0, start.requires.1.1.0))))
+    (rw (at_sub.sub.ensures.0, at_sub.before.cell.ensures.0, start.requires.is.0.0, start.requires.is.1.0))))

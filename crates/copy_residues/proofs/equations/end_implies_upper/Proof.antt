@@ -14,4 +14,4 @@ end_implies_upper_spec =
     let at_cell = at_times.before.before in
     let start = at_cell.before.before in
     rw (c.times-2.ensures.0, c.before.cell-2.ensures.0, at_times.times.ensures.0, at_times.before.sub.ensures.0)
-    (rw (at_cell.cell.ensures.0, start.requires.1.0))))
+    (rw (at_cell.cell.ensures.0, start.requires.is.0))))

@@ -18,4 +18,4 @@ mu_com_spec =
     let at_cell2 = at_times.before.before in
     let start = at_cell2.before.before.before in
     rw (c.sub-2.ensures.0, c.before.cell-3.ensures.0, at_times.times-moves.ensures.0, at_times.before.sub.ensures.0)
-    (rw (at_cell2.cell-2.ensures.0, at_cell2.before.cell.ensures.0, start.requires.1.0) (ap (sub_p _) (mul_p_comm _ _)))))
+    (rw (at_cell2.cell-2.ensures.0, at_cell2.before.cell.ensures.0, start.requires.is.0) (ap (sub_p _) (mul_p_comm _ _)))))

@@ -13,4 +13,4 @@ no_wrap_spec =
     (λ c κs. search rules) (λ c κs. search rules) (λ c κs. search rules)
     (λ c. let at_cell = c.before.before in
     let start = at_cell.before.before in
-    rw (c.times.ensures.0, c.before.sub.ensures.0, at_cell.cell.ensures.0, start.requires.1.0.0, start.requires.1.1.0) (mul_p_comm _ _)))
+    rw (c.times.ensures.0, c.before.sub.ensures.0, at_cell.cell.ensures.0, start.requires.is.0.0, start.requires.is.1.0) (mul_p_comm _ _)))

@@ -23,7 +23,7 @@ abbrev c_of : tie.Start → Call
 c_of c = call_of c.args.call
 
 abbrev n_of : tie.Start → Lengths
-n_of c = lengths_are c.args.cells c.args.stamped c.args.ops_room c.args.accesses-room
+n_of c = lengths_are c.args.cells c.args.stamped c.args.ops_room c.args.accesses_room
 
 -- the places where each test has failed, and the entry seen from them
 abbrev start_3 : tie.Else-call-eq18446744073709551615 → tie.Start
@@ -124,12 +124,12 @@ access_count_requires c κs =
 mul_if7 : tie.Need-overflow_mul-ops
 mul_if7 c =
     let counted = c.before in
-    omega (arith, count_at counted.before.before, counted.before.row_count-rows.ensures.1, counted.op_count-ops.ensures.1)
+    omega (arith, count_at counted.before.before, counted.before.row_count-rows.ensures.upper_bound, counted.op_count-ops.ensures.upper_bound)
 
 mul_if7_2 : tie.Need-overflow_mul-accesses
 mul_if7_2 c =
     let counted = c.before in
-    omega (arith, count_at counted.before.before, counted.before.row_count-rows.ensures.1, c.access_count-accesses.ensures.1)
+    omega (arith, count_at counted.before.before, counted.before.row_count-rows.ensures.upper_bound, c.access_count-accesses.ensures.upper_bound)
 
 -- the counts of the code are those of the definition
 same_short : (c : Call) (n : Lengths) (ops accesses : ℕ) → ops ≡ op_count c → accesses ≡ access_count c → (b : Bool)
@@ -141,7 +141,7 @@ returns_7 c =
     let counted = c.before in
     let start = start_6 counted.before.before.before in
     let short =
-    same_short (c_of start) (n_of start) _ _ counted.before.op_count-ops.ensures.0 counted.access_count-accesses.ensures.0 _ c.if-ops_room-ops.true in
+    same_short (c_of start) (n_of start) _ _ counted.before.op_count-ops.ensures.value counted.access_count-accesses.ensures.value _ c.if-ops_room-ops.true in
     sym (ap (with_accesses (c_of start)) (fair_short _ _ _ (fair_at counted.before.before.before) short))
 
 returns_8 : tie.Need-returns
@@ -149,8 +149,8 @@ returns_8 c =
     let counted = c.before in
     let past_6 = counted.before.before.before in
     let start = start_6 past_6 in
-    let ops = counted.before.op_count-ops.ensures.0 in
-    let accesses = counted.access_count-accesses.ensures.0 in
+    let ops = counted.before.op_count-ops.ensures.value in
+    let accesses = counted.access_count-accesses.ensures.value in
     let fit = neither _ _ (same_short (c_of start) (n_of start) _ _ ops accesses _ c.if-ops_room-ops.false) in
     let room : Room (c_of start) (n_of start) = record { ops = ltb-false _ _ fit.0; accesses = ltb-false _ _ fit.1 } in
     cc (ops, accesses) ∙ sym (ap (with_accesses (c_of start)) (fair_accepted _ _ _ (fair_at past_6) room))

@@ -21,14 +21,14 @@ to_start c =
 value_bytes_requires : tie.Need-value_bytes-value-requires
 value_bytes_requires c κs =
     let start = to_start c in
-    (start.pre.1.0, start.pre.0.bytes)
+    (start.requires.op_len.0, start.requires.held_inside.bytes)
 
 write_cells_requires : tie.Need-write_cells-requires
 write_cells_requires c κs =
     let at_shared_slice_known3 = c.before.before.before in
     let at_slice_known3 = at_shared_slice_known3.before.before.before in
     let start = to_start at_slice_known3 in
-    (start.pre.0.wide, start.pre.0.dest, start.pre.1.1, start.pre.1.2)
+    (start.requires.held_inside.wide, start.requires.held_inside.dest, start.requires.op_len.1, start.requires.op_len.2)
 
 returns : tie.Need-returns
 returns c =
@@ -44,7 +44,7 @@ returns c =
     let m = window_of a.bytes.now a.stamps.now in
     let w = at_write_cells.write_cells.ensures in
     let v = at_value_bytes.value_bytes-value.ensures in
-    let t = sym start.pre.0.stamp in (
+    let t = sym start.requires.held_inside.stamp in (
       w.0 ∙ ap (λ (x : List ℕ). write_bytes a.bytes.now (at op 2) (at op 4) x) v,
       (
         w.1.0 ∙ ap (λ (x : ℕ). write_stamps a.stamps.now (at op 2) (at op 4) x) t,

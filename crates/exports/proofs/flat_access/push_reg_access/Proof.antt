@@ -31,7 +31,7 @@ answer_at : (c : tie.After-numbers-told) → let s = start_of c.before in c.numb
 answer_at c =
     let found = c.before in
     let s = start_of found in
-    ap (λ (n : AccessNumbers). n.answer) (c.numbers-told.ensures ∙ found.push_reg_access-access.ensures.0)
+    ap (λ (n : AccessNumbers). n.answer) (c.numbers-told.ensures ∙ found.push_reg_access-access.ensures.answer)
     ∙ pushed_answer s.args.is_read (access s) (lent s) found.before.if-is_read-gt1.false
 
 returns : tie.Need-returns-then-is_read-gt1
@@ -51,7 +51,7 @@ returns_3 c =
     let told = at_if2.before.before.before in
     let found = told.before in
     let s = start_of found in
-    push_whole s.args.is_read (access s) (lent s) _ (answer_at told) at_if2.if-answer-ne0.false c.if-answer-ne0-2.true _ found.push_reg_access-access.ensures.1
+    push_whole s.args.is_read (access s) (lent s) _ (answer_at told) at_if2.if-answer-ne0.false c.if-answer-ne0-2.true _ found.push_reg_access-access.ensures.written
 
 returns_4 : tie.Need-returns
 returns_4 c =
@@ -61,7 +61,7 @@ returns_4 c =
     let found = told.before in
     let s = start_of found in
     push_front s.args.is_read (access s) (lent s) _ (answer_at told) at_if2.if-answer-ne0.false c.before.if-answer-ne0-2.false _
-    (c.register_front.ensures ∙ ap (λ (w : List ℕ). take REGISTER_WIDTH w ++ drop REGISTER_WIDTH (lent s)) found.push_reg_access-access.ensures.1)
+    (c.register_front.ensures ∙ ap (λ (w : List ℕ). take REGISTER_WIDTH w ++ drop REGISTER_WIDTH (lent s)) found.push_reg_access-access.ensures.written)
 
 pub push_reg_access_spec : {M : Type 1} → statement M
 push_reg_access_spec =

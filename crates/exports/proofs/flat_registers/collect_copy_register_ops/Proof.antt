@@ -42,7 +42,7 @@ answer_at c =
     let s = start found in
     let tests = past_index_lem (kind_at found) in
     c.numbers-answer.ensures
-    ∙ found.collect_copy_register_ops-step.ensures.0
+    ∙ found.collect_copy_register_ops-step.ensures.answer
     ∙ ap (λ (x : RegisterStep). step_numbers x.answer) (step found)
     ∙ same_answer (call s) s.args.state.now s.args.records.now
     (sym tests.before.before.no_kind.ensures ∙ tests.before.if-no_kind.left) tests.if-flat-gt4294967295.left

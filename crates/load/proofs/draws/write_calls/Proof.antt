@@ -46,7 +46,7 @@ put_at_requires : tie.Need-put_at-requires invariant_loop decreases_loop
 put_at_requires c κs =
     let made = made_of c in
     let top = top_of made in
-    omega (arith, ap length made.load_call-call.ensures.0, top.loop-k.inv.1, (entry_of top).pre.1)
+    omega (arith, ap length made.load_call-call.ensures.numbers, top.loop-k.inv.1, (entry_of top).pre.1)
 
 add_stamp : tie.Need-overflow_add-stamp invariant_loop decreases_loop
 add_stamp c =

@@ -33,7 +33,7 @@ room : (c : tie.Else-not-is_read) (which : Bool) → let a = (entry_of c.before)
 room c which e =
     let entry = entry_of c.before in
     let a = entry.args in
-    room_for a.calls a.row.now a.out.now a.j (read c) which e (entry.pre.1 (read c))
+    room_for a.calls a.row.now a.out.now a.j (read c) which e (entry.requires.calls_in_bounds (read c))
 
 call_room : (c : tie.Then-calls) → let a = (entry_of c.before.before).args in CALL_WIDTH * a.j + CALL_WIDTH ≤ length a.out.now
 call_room c = room c.before true c.if-calls.true

@@ -48,7 +48,7 @@ abbrev put_of : tie.After-put_row-arg-in-loop-k-1 invariant_loop decreases_loop 
 put_of c = c.before.before.before
 
 holds : (c : Top) → let a = (entry_of c).args in Holds (rows_of c) (length a.ops.now) (length a.calls.now)
-holds c = holds_of _ _ _ (entry_of c).requires.1
+holds c = holds_of _ _ _ (entry_of c).requires.calls_value
 
 module _ (c : Row) where
   within : (top_of c).loop-k.k < length (rows_of (top_of c)) / COLUMNS
@@ -60,7 +60,7 @@ module _ (c : Row) where
   caps : Caps c.record_at-row.result.now
   caps =
       subst (λ (r : List ℕ). Caps r) (sym c.record_at-row.ensures)
-      (row_caps (rows_of (top_of c)) (entry_of (top_of c)).pre.0 (top_of c).loop-k.k within)
+      (row_caps (rows_of (top_of c)) (entry_of (top_of c)).requires.rows_fit (top_of c).loop-k.k within)
 
 pub write_spec : {M : Type 1} → statement M
 write_spec =
@@ -74,13 +74,13 @@ write_spec =
     let row = c.before in
     let top = top_of row in (
       (wide row, caps row),
-      row_room (rows_of top) (entry_of top).pre.0 false _ _ _ _ top.loop-k.inv.1 (within row) (holds top).holds_ops _ row.record_at-row.ensures,
+      row_room (rows_of top) (entry_of top).requires.rows_fit false _ _ _ _ top.loop-k.inv.1 (within row) (holds top).holds_ops _ row.record_at-row.ensures,
     ))
     (λ c κs.
     let row = row_of_lem (put_of c) in
     let top = top_of row in (
       (wide row, caps row),
-      row_room (rows_of top) (entry_of top).pre.0 true _ _ _ _ top.loop-k.inv.2 (within row) (holds top).holds_calls _ row.record_at-row.ensures,
+      row_room (rows_of top) (entry_of top).requires.rows_fit true _ _ _ _ top.loop-k.inv.2 (within row) (holds top).holds_calls _ row.record_at-row.ensures,
     ))
     (λ c. search rules) (λ c. search rules)
     (λ c.
@@ -88,18 +88,18 @@ write_spec =
     let ops = put_of calls.before in
     let row = row_of_lem ops in
     let top = top_of row in
-    let fit = (entry_of top).pre.0 in
+    let fit = (entry_of top).requires.rows_fit in
     let is = row.record_at-row.ensures in (
       omega arith,
-      row_written (rows_of top) fit false _ _ _ _ top.loop-k.inv.1 _ is _ _ ops.put_row-o.ensures.0 ops.put_row-o.ensures.1,
-      row_written (rows_of top) fit true _ _ _ _ top.loop-k.inv.2 _ is _ _ calls.put_row-c.ensures.0 calls.put_row-c.ensures.1,
+      row_written (rows_of top) fit false _ _ _ _ top.loop-k.inv.1 _ is _ _ ops.put_row-o.ensures.count ops.put_row-o.ensures.out,
+      row_written (rows_of top) fit true _ _ _ _ top.loop-k.inv.2 _ is _ _ calls.put_row-c.ensures.count calls.put_row-c.ensures.out,
     ))
     (λ c. c.before.loop-k.invariant.1.same)
     (λ c. c.before.loop-k.invariant.2.same)
     (λ c.
     let at = c.before.loop-k in
     let l = rows_of c.before in
-    let fit = (entry_of c.before).pre.0 in
+    let fit = (entry_of c.before).requires.rows_fit in
     let whole : at.k ≡ length l / COLUMNS = omega arith in (
       record {
         is_ops = all_counted l fit false at.k whole at.o at.invariant.1.count;

@@ -41,7 +41,7 @@ returns_3 c =
     let a = at.before.before.before.args in
     rw (le-ltb LIMIT _ (few at), eq-eqb (length (calls_of_place at) % HANDED_WIDTH) 0 (omega arith))
     (c.decide.ensures
-    ∙ ap₂ (λ (n m : ℕ). decided n m a.table_room a.ops_room a.calls-room) counted.count-found.ensures.0 counted.count-found.ensures.1.0)
+    ∙ ap₂ (λ (n m : ℕ). decided n m a.table_room a.ops_room a.calls-room) counted.count-found.ensures.ops counted.count-found.ensures.calls.0)
 
 pub foretell_spec : {M : Type 1} → statement M
 foretell_spec =

@@ -14,4 +14,4 @@ counts_at_spec =
     (λ c κs. search (rules, flag_bit))
     (λ c.
     let at_halves = c.before.before.before in
-    rw (← at_halves.halves_at-next.ensures, ← at_halves.before.before.requires.0.1) c.counts.ensures))
+    rw (← at_halves.halves_at-next.ensures, ← at_halves.before.before.requires.row_len.1) c.counts.ensures))

@@ -15,4 +15,4 @@ flags_at_spec =
     let at_known8 = c.before.before.before in
     let at_known5 = at_known8.before.before.before in
     let at_known2 = at_known5.before.before.before in
-    rw (← at_known2.before.before.requires.0.1) c.flags.ensures))
+    rw (← at_known2.before.before.requires.row_len.1) c.flags.ensures))

@@ -13,4 +13,4 @@ moves_at_spec =
     (λ c.
     let at_halves = c.before.before.before in
     let at_words = at_halves.before in
-    rw (← at_words.words_at-x.ensures, ← at_halves.halves_at-next.ensures, ← at_words.before.before.requires.0.2) c.moves.ensures))
+    rw (← at_words.words_at-x.ensures, ← at_halves.halves_at-next.ensures, ← at_words.before.before.requires.row_len.2) c.moves.ensures))

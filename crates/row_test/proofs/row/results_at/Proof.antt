@@ -16,4 +16,4 @@ results_at_spec =
     (λ c.
     let at_res = c.before.before in
     let at_dst = at_res.before in
-    rw (← at_dst.words_at-dst.ensures, ← at_res.halves_at-res.ensures, ← at_dst.before.before.requires.0.1) c.results.ensures))
+    rw (← at_dst.words_at-dst.ensures, ← at_res.halves_at-res.ensures, ← at_dst.before.before.requires.row_len.1) c.results.ensures))

@@ -11,14 +11,14 @@ found c =
     let at_shared_slice_known = c.before.before.before in
     let start = at_shared_slice_known.before in
     let start = start.args in
-    (omega arith, omega arith, next_is start.text.now start.at c.before.position-end.result c.before.position-end.ensures.0)
+    (omega arith, omega arith, next_is start.text.now start.at c.before.position-end.result c.before.position-end.ensures.value)
 
 none : tie.Need-returns-else-end-text
 none c =
     let at_shared_slice_known = c.before.before.before in
     let start = at_shared_slice_known.before in
     let start = start.args in
-    (omega arith, omega arith, next_none start.text.now start.at c.before.position-end.result c.before.position-end.ensures.0 c.if-end-text.false)
+    (omega arith, omega arith, next_none start.text.now start.at c.before.position-end.result c.before.position-end.ensures.value c.if-end-text.false)
 
 pub next_line_spec : {M : Type 1} → statement M
 next_line_spec =

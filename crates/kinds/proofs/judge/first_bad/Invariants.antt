@@ -1,0 +1,20 @@
+use mathlib.Core.Path.{◌≡◌, sym, ap, ◌∙◌}
+use Prim.Native.Nat.{◌-◌, ◌≤◌}
+use native.Mathlib.Omega.{arith}
+use borrow.Author.Rules.{rules}
+use borrow.Author.Tests.{not-true, not-false}
+use Rattle.lists.specs.Lists.{first}
+use Rattle.records.specs.Records.{record_count, record_at, first_bad}
+use Rattle.records.proofs.Records.{bad_at, bad_start, bad_pass, bad_stop, bad_end, record_within}
+use Rattle.kinds.specs.Kinds.{kind_width, good_of_kind}
+use Rattle.kinds.proofs.Widths.{width_bounds}
+use Rattle.kinds.proofs.judge.first_bad.Given as goal
+
+abbrev pub invariant-loop-k : goal.invariant-loop-k
+invariant-loop-k l =
+    (l.k ≤ l.n)
+    × (first_bad (kind_width l.kind) (good_of_kind l.kind) l.list
+    ≡ first (bad_at (kind_width l.kind) (good_of_kind l.kind) l.list) l.k (record_count (kind_width l.kind) l.list - l.k))
+
+abbrev pub decreases-loop-k : goal.decreases-loop-k
+decreases-loop-k l = l.n - l.k
