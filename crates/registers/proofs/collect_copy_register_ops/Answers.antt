@@ -13,20 +13,26 @@ same_step x y e =
 pub returns-in-Copy : goal.returns-in-Copy
 unfolding register_step
 returns-in-Copy c =
+    let whole =
     let a = c.args in
     same_step c.step_memory.result (register_step a.kind a.timestamp a.src a.dst a.count a.state)
-    (rw c.in-Copy.is c.step_memory.ensures)
+    (rw c.in-Copy.is c.step_memory.ensures) in
+    record { answer = whole.0; state = whole.1.0; records = whole.1.1 }
 
 pub returns-in-Set : goal.returns-in-Set
 unfolding register_step
 returns-in-Set c =
+    let whole =
     let a = c.args in
     same_step c.step_memory-in-Set.result (register_step a.kind a.timestamp a.src a.dst a.count a.state)
-    (rw c.in-Set.is c.step_memory-in-Set.ensures)
+    (rw c.in-Set.is c.step_memory-in-Set.ensures) in
+    record { answer = whole.0; state = whole.1.0; records = whole.1.1 }
 
 pub returns-in-Write : goal.returns-in-Write
 unfolding register_step
 returns-in-Write c =
+    let whole =
     let a = c.args in
     same_step c.step_write.result (register_step a.kind a.timestamp a.src a.dst a.count a.state)
-    (rw c.in-Write.is c.step_write.ensures)
+    (rw c.in-Write.is c.step_write.ensures) in
+    record { answer = whole.0; state = whole.1.0; records = whole.1.1 }

@@ -6,7 +6,7 @@ use Rattle.exports.proofs.flat_registers.state_of.Tie as tie
 
 returns : tie.Need-returns
 returns c =
-    let flat = c.before.before.args.t1 in
+    let flat = c.before.before.args.flat in
     λ i. record {
       values = c.before.thirty_two.ensures i;
       stamps = c.thirty_two-2.ensures i;

@@ -26,7 +26,7 @@ returns c =
     let at_third = at_fifth.before.before in
     let at_first = at_third.before.before in
     words_of
-    at_first.before.args.t1
+    at_first.before.args.stamps
     at_first.words-a.ensures
     at_third.before.words-b.ensures
     at_third.words-c.ensures

@@ -10,13 +10,13 @@ use Rattle.window.proofs.accesses.byte_words.Goals as goal
 
 pub loop-i-init : goal.loop-i-init
 loop-i-init c =
-    let v = c.args.t1 in
+    let v = c.args.value in
     let n : length v ≡ 8 = search rules in
     (search rules, refl, store_all (replicate 8 0) v (sym n))
 
 pub loop-i-preserved : goal.loop-i-preserved
 loop-i-preserved c =
-    let v = c.args.t1 in
+    let v = c.args.value in
     let l = c.loop-i in
     let n : length v ≡ 8 = search rules in (
       search rules,
@@ -28,7 +28,7 @@ loop-i-preserved c =
 
 pub returns : goal.returns
 returns c =
-    let v = c.args.t1 in
+    let v = c.args.value in
     let l = c.loop-i in
     let n : length v ≡ 8 = search rules in
     sym (store_end l.out v l.i l.i (omega arith)) ∙ l.invariant.2

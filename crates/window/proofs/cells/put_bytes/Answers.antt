@@ -18,11 +18,11 @@ loop-i-preserved c =
     let l = c.loop-i in (
       search rules,
       simp length-set (search rules),
-      write_turn a.t4 a.at a.width l.i l.bytes (search rules) (search rules) ∙ l.invariant.2,
+      write_turn a.value a.at a.width l.i l.bytes (search rules) (search rules) ∙ l.invariant.2,
     )
 
 pub returns : goal.returns
 returns c =
     let a = c.args in
     let l = c.loop-i in
-    write_end a.t4 a.at a.width l.i l.bytes a.bytes.now (search rules) (search rules) l.invariant.2
+    write_end a.value a.at a.width l.i l.bytes a.bytes.now (search rules) (search rules) l.invariant.2
