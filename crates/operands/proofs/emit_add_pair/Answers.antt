@@ -17,7 +17,7 @@ unfolding pair_answer
 returns-in-Fine c = record { answer =
     let values = c.pair_values-values.ensures in
     ap pair_numbers
-    ((λ i. Residues (values.0 i) (values.1.0 i))
+    ((λ i. Residues (values.low i) (values.high i))
     ∙ answer_of _ _ c.pair_verdict.ensures c.in-Fine.is) }
 
 pub returns-in-Refused : goal.returns-in-Refused

@@ -7,3 +7,7 @@ use Rattle.operands.proofs.judge.term_in_row.Goals as goal
 pub returns-in-Column : goal.returns-in-Column
 unfolding term_in_row
 returns-in-Column c = sym (ap term_in_row c.in-Column.is)
+
+pub returns-in-Constant : goal.returns-in-Constant
+unfolding term_in_row
+returns-in-Constant c = search rules

@@ -17,11 +17,13 @@ pub loop-k-init : goal.loop-k-init
 loop-k-init c = (omega arith, (sum_none _, omega arith))
 
 pub offset_bounds-row-column : goal.offset_bounds-row-column
+unfolding conditions_in_row
 offset_bounds-row-column c =
     let column : get_or c.args.conditions.now c.loop-k.k 0 < COLUMNS = ltb-true _ COLUMNS (every_at _ _ c.requires.0 c.loop-k.k c.loop-k-test.true) in
     omega (arith, column)
 
 pub bounds-row-column : goal.bounds-row-column
+unfolding conditions_in_row
 bounds-row-column c =
     let column : get_or c.args.conditions.now c.loop-k.k 0 < COLUMNS = ltb-true _ COLUMNS (every_at _ _ c.requires.0 c.loop-k.k c.loop-k-test.true) in
     omega (arith, column)
