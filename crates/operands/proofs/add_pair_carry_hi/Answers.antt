@@ -21,16 +21,20 @@ carries-c-requires c =
 
 pub returns-in-Fine : goal.returns-in-Fine
 unfolding carry_answer
-returns-in-Fine c = record { answer =
-    let found : let a = c.args in
-    c.row_verdict.result ≡ row_verdict (operands_in_row a.lhs a.rhs a.sum) COLUMNS a.row.now =
-    c.row_verdict.ensures ∙ ap (λ b. row_verdict b COLUMNS c.args.row.now) c.operands_in_row.ensures in
-    ap carry_numbers (ap Carry c.carries-c.ensures.high.0 ∙ answer_of _ _ found c.in-Fine.is) }
+returns-in-Fine c = record {
+  answer =
+      let found : let a = c.args in
+      c.row_verdict.result ≡ row_verdict (operands_in_row a.lhs a.rhs a.sum) COLUMNS a.row.now =
+      c.row_verdict.ensures ∙ ap (λ b. row_verdict b COLUMNS c.args.row.now) c.operands_in_row.ensures in
+      ap carry_numbers (ap Carry c.carries-c.ensures.high.0 ∙ answer_of _ _ found c.in-Fine.is);
+}
 
 pub returns-in-Refused : goal.returns-in-Refused
 unfolding carry_answer
-returns-in-Refused c = record { answer =
-    let found : let a = c.args in
-    c.row_verdict.result ≡ row_verdict (operands_in_row a.lhs a.rhs a.sum) COLUMNS a.row.now =
-    c.row_verdict.ensures ∙ ap (λ b. row_verdict b COLUMNS c.args.row.now) c.operands_in_row.ensures in
-    ap carry_numbers (answer_of _ _ found c.in-Refused.is) }
+returns-in-Refused c = record {
+  answer =
+      let found : let a = c.args in
+      c.row_verdict.result ≡ row_verdict (operands_in_row a.lhs a.rhs a.sum) COLUMNS a.row.now =
+      c.row_verdict.ensures ∙ ap (λ b. row_verdict b COLUMNS c.args.row.now) c.operands_in_row.ensures in
+      ap carry_numbers (answer_of _ _ found c.in-Refused.is);
+}

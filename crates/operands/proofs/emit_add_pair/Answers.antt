@@ -14,13 +14,17 @@ pair_values-values-requires c =
 
 pub returns-in-Fine : goal.returns-in-Fine
 unfolding pair_answer
-returns-in-Fine c = record { answer =
-    let values = c.pair_values-values.ensures in
-    ap pair_numbers
-    ((λ i. Residues (values.low i) (values.high i))
-    ∙ answer_of _ _ c.pair_verdict.ensures c.in-Fine.is) }
+returns-in-Fine c = record {
+  answer =
+      let values = c.pair_values-values.ensures in
+      ap pair_numbers
+      ((λ i. Residues (values.low i) (values.high i))
+      ∙ answer_of _ _ c.pair_verdict.ensures c.in-Fine.is);
+}
 
 pub returns-in-Refused : goal.returns-in-Refused
 unfolding pair_answer
-returns-in-Refused c = record { answer =
-    ap pair_numbers (answer_of _ _ c.pair_verdict.ensures c.in-Refused.is) }
+returns-in-Refused c = record {
+  answer =
+      ap pair_numbers (answer_of _ _ c.pair_verdict.ensures c.in-Refused.is);
+}
