@@ -1,0 +1,14 @@
+use borrow.Author.Rules.{rules}
+use mathlib.Core.Path.{◌≡◌}
+use Prim.Native.Nat.{◌-◌, ◌≤◌}
+use native.Mathlib.Omega.{arith}
+use Rattle.add_pair.specs.Flat.{after_terms}
+use Rattle.add_pair.specs.declared.Walk.TheVariants.{At}
+use Rattle.add_pair.proofs.Walks.{walk_starts, walk_stops, walk_goes_on, walk_ends}
+use Rattle.add_pair.proofs.flat.after_terms.Given as goal
+
+abbrev pub invariant-loop-k : goal.invariant-loop-k
+invariant-loop-k l = (l.k ≤ l.n) × (after_terms l.list (At l.start) l.n ≡ after_terms l.list (At l.i) (l.n - l.k))
+
+abbrev pub decreases-loop-k : goal.decreases-loop-k
+decreases-loop-k l = l.n - l.k
