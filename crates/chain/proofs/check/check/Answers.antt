@@ -1,0 +1,124 @@
+-- `check::check`: a walk over the rows with the row before in hand; each way out is what the row check or the link check makes of the
+-- answer. Assumes nothing.
+use mathlib.Core.Path.{◌≡◌, sym, ap, ◌∙◌}
+use mathlib.Core.Logic.{⊎_elim}
+use mathlib.Core.List.{List}
+use Prim.Native.Nat.{ℕ, ◌+◌, ◌*◌, ◌-◌}
+use native.Mathlib.Omega.{arith}
+use borrow.Author.Rules.{rules}
+use lib.ListN.{length, take, drop}
+use Rattle.records.specs.Records.{record_at}
+use Rattle.records.proofs.Records.{record_part}
+use Rattle.copy_row.specs.Columns.{COLUMNS}
+use Rattle.copy_residues.specs.RowCheck.{row_fault}
+use Rattle.chain.proofs.Rows.{row_length, Walk, gap_large, not_rows, walk_start, walk_on}
+use Rattle.chain.proofs.Rows.{Asked, a_row, the_end, asked_stood, from_row, from_link, from_end}
+use Rattle.chain.proofs.check.check.Goals as goal
+
+pub returns-then-gap-ge4294967296 : goal.returns-then-gap-ge4294967296
+returns-then-gap-ge4294967296 c = gap_large _ _ (omega arith)
+
+pub returns-then-rows-ne0 : goal.returns-then-rows-ne0
+returns-then-rows-ne0 c = not_rows _ _ (omega arith) (λ e. omega arith)
+
+pub rows-init : goal.rows-init
+rows-init c = walk_start _ _ (omega arith) (omega arith)
+
+pub row_fault-requires : goal.row_fault-requires
+row_fault-requires c =
+    let rows_of : List ℕ = c.args.rows.now in
+    let row_of_lem : List ℕ =
+    let start = COLUMNS * c.rows.k in
+    take (start + COLUMNS - start) (drop start rows_of) in
+    let is : row_of_lem ≡ record_at COLUMNS rows_of c.rows.k = record_part COLUMNS rows_of c.rows.k in
+    let wide : length row_of_lem ≡ COLUMNS = ap length is ∙ row_length rows_of c.rows.k (omega arith) in
+    (omega arith, wide)
+
+pub link_check-requires : goal.link_check-requires
+link_check-requires c =
+    let gap_of : ℕ = c.args.gap in
+    let rows_of : List ℕ = c.args.rows.now in
+    let walk : Walk gap_of rows_of c.rows.behind c.rows.k = c.rows.invariant in
+    let row_of_lem : List ℕ =
+    let start = COLUMNS * c.rows.k in
+    take (start + COLUMNS - start) (drop start rows_of) in
+    let is : row_of_lem ≡ record_at COLUMNS rows_of c.rows.k = record_part COLUMNS rows_of c.rows.k in
+    let asked : Asked gap_of rows_of c.rows.k c.if-k-n.row.now =
+    ⊎_elim
+    (λ w.
+    let row : Row = record { before = record { before = c; if3 = w.0 }; row2 = w.1 } in
+    let same = ap (λ x. x.now) w.5 in
+    a_row (omega (arith, w.0.taken)) (same ∙ is row) (ap (row_fault _) same ∙ sym w.2.ensures ∙ w.4.given.1))
+    (λ w. the_end (omega (arith, w.0.left)) (ap (λ (l : List ℕ). length l) (ap (λ x. x.now) w.1) ∙ omega arith))
+    c.if-k-n.branch in
+    (walk.stood, asked_stood _ _ _ _ walk _ (omega arith) asked)
+
+pub returns-then-n-k : goal.returns-then-n-k
+returns-then-n-k c =
+    let gap_of : ℕ = c.args.gap in
+    let rows_of : List ℕ = c.args.rows.now in
+    let walk : Walk gap_of rows_of c.rows.behind c.rows.k = c.rows.invariant in
+    let row_of_lem : List ℕ =
+    let start = COLUMNS * c.rows.k in
+    take (start + COLUMNS - start) (drop start rows_of) in
+    let is : row_of_lem ≡ record_at COLUMNS rows_of c.rows.k = record_part COLUMNS rows_of c.rows.k in
+    let asked : Asked gap_of rows_of c.rows.k c.if-k-n.row.now =
+    ⊎_elim
+    (λ w.
+    let row : Row = record { before = record { before = c; if3 = w.0 }; row2 = w.1 } in
+    let same = ap (λ x. x.now) w.5 in
+    a_row (omega (arith, w.0.taken)) (same ∙ is row) (ap (row_fault _) same ∙ sym w.2.ensures ∙ w.4.given.1))
+    (λ w. the_end (omega (arith, w.0.left)) (ap (λ (l : List ℕ). length l) (ap (λ x. x.now) w.1) ∙ omega arith))
+    c.if-k-n.branch in
+    from_end _ _ _ _ walk _ asked (omega arith)
+    (sym c.link_check.ensures ∙ c.in_default-link_check.is)
+
+pub rows-preserved : goal.rows-preserved
+rows-preserved c =
+    let gap_of : ℕ = c.args.gap in
+    let rows_of : List ℕ = c.args.rows.now in
+    let walk : Walk gap_of rows_of c.rows.behind c.rows.k = c.rows.invariant in
+    let row_of_lem : List ℕ =
+    let start = COLUMNS * c.rows.k in
+    take (start + COLUMNS - start) (drop start rows_of) in
+    let is : row_of_lem ≡ record_at COLUMNS rows_of c.rows.k = record_part COLUMNS rows_of c.rows.k in
+    let asked : Asked gap_of rows_of c.rows.k c.if-k-n.row.now =
+    ⊎_elim
+    (λ w.
+    let row : Row = record { before = record { before = c; if3 = w.0 }; row2 = w.1 } in
+    let same = ap (λ x. x.now) w.5 in
+    a_row (omega (arith, w.0.taken)) (same ∙ is row) (ap (row_fault _) same ∙ sym w.2.ensures ∙ w.4.given.1))
+    (λ w. the_end (omega (arith, w.0.left)) (ap (λ (l : List ℕ). length l) (ap (λ x. x.now) w.1) ∙ omega arith))
+    c.if-k-n.branch in
+    walk_on _ _ _ _ walk _ (omega arith) asked (omega arith)
+    (sym c.link_check.ensures ∙ c.in_default-link_check.is)
+
+pub returns-in-Faulty : goal.returns-in-Faulty
+returns-in-Faulty c =
+    let gap_of : ℕ = c.args.gap in
+    let rows_of : List ℕ = c.args.rows.now in
+    let walk : Walk gap_of rows_of c.rows.behind c.rows.k = c.rows.invariant in
+    let row_of_lem : List ℕ =
+    let start = COLUMNS * c.rows.k in
+    take (start + COLUMNS - start) (drop start rows_of) in
+    let is : row_of_lem ≡ record_at COLUMNS rows_of c.rows.k = record_part COLUMNS rows_of c.rows.k in
+    from_row _ _ _ _ walk (omega arith) _ is _ (sym c.row_fault.ensures ∙ c.in-Faulty.is)
+
+pub returns-in-Unlinked : goal.returns-in-Unlinked
+returns-in-Unlinked c =
+    let gap_of : ℕ = c.args.gap in
+    let rows_of : List ℕ = c.args.rows.now in
+    let walk : Walk gap_of rows_of c.rows.behind c.rows.k = c.rows.invariant in
+    let row_of_lem : List ℕ =
+    let start = COLUMNS * c.rows.k in
+    take (start + COLUMNS - start) (drop start rows_of) in
+    let is : row_of_lem ≡ record_at COLUMNS rows_of c.rows.k = record_part COLUMNS rows_of c.rows.k in
+    let asked : Asked gap_of rows_of c.rows.k c.if-k-n.row.now =
+    ⊎_elim
+    (λ w.
+    let row : Row = record { before = record { before = c; if3 = w.0 }; row2 = w.1 } in
+    let same = ap (λ x. x.now) w.5 in
+    a_row (omega (arith, w.0.taken)) (same ∙ is row) (ap (row_fault _) same ∙ sym w.2.ensures ∙ w.4.given.1))
+    (λ w. the_end (omega (arith, w.0.left)) (ap (λ (l : List ℕ). length l) (ap (λ x. x.now) w.1) ∙ omega arith))
+    c.if-k-n.branch in
+    from_link _ _ _ _ walk _ asked _ (sym c.link_check.ensures ∙ c.in-Unlinked.is)
