@@ -23,9 +23,9 @@ returns-then-row-eq0 c =
 
 pub linked-requires : goal.linked-requires
 linked-requires c = record {
-      row_len = row_stood _ c.requires.1 (omega arith);
-      stood = c.requires.0;
-    }
+  row_len = row_stood _ c.requires.1 (omega arith);
+  stood = c.requires.0;
+}
 
 pub returns-then-linked : goal.returns-then-linked
 returns-then-linked c = sym (ap (link_fault _) (following_row _ (omega arith)) ∙ row_linked _ _ (sym c.linked.ensures ∙ c.if-linked.true))

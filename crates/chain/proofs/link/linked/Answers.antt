@@ -29,7 +29,6 @@ returns-then-previous-eq1 c =
 
 pub goes_on-requires : goal.goes_on-requires
 goes_on-requires c =
-    
     let stood = row_stood _ c.requires.stood (omega arith) in record {
       previous_len = (stood.0, c.requires.row_len.0);
       caps = (stood.1, c.requires.row_len.1);
@@ -39,5 +38,5 @@ pub returns : goal.returns
 returns c =
     let previous_of : List ℕ = c.args.previous.now in
     let row_of_lem : List ℕ = c.args.row.now in
-    rw (standing_unended previous_of (omega arith) c.if-previous-ne1.left c.if-previous-eq1.false, c.goes_on.ensures)
+    rw (standing_unended previous_of (omega arith) c.if-previous-ne1.false c.if-previous-eq1.false, c.goes_on.ensures)
     (sym (linked_unended row_of_lem previous_of))
