@@ -7,8 +7,7 @@ use Rattle.answer.specs.declared.Answer.{Answer}
 use Rattle.chain.proofs.Passed.{refusal_numbered}
 use Rattle.read_back.specs.ReadBack.{read_back_numbers, counts_after}
 use Rattle.read_back.specs.declared.ReadBackAnswer.{ReadBackAnswer}
-use Rattle.read_back.proofs.read_back_numbers.Statement.{statement}
-use Rattle.read_back.proofs.read_back_numbers.Tie as tie
+use Rattle.read_back.proofs.read_back_numbers.Goals as goal
 
 -- what is told of the answer, of its numbers and of the counts
 told_numbers : (a told : ReadBackAnswer) → a ≡ told → (r : Answer) → r ≡ (read_back_numbers told).answer → (counts later : List ℕ)
@@ -19,15 +18,20 @@ told_numbers a told e r q counts later k = (
   k ∙ ap (λ (x : ReadBackAnswer). counts_after (read_back_numbers x) counts) (sym e),
 )
 
-pub read_back_numbers_spec : {M : Type 1} → statement M
-read_back_numbers_spec =
-    tie.close
-    (tie.spec
-    (λ c. search rules) (λ c κs. search rules) (λ c. search rules) (λ c κs. search rules) (λ c. search rules)
-    (λ c κs. search rules)
-    (λ c. let told = c.before.before.before in
-    told_numbers _ _ told.a.given.1 _ c.accept.ensures told.before.before.args.counts.now _ refl)
-    (λ c. let told = c.before.before in
-    told_numbers _ _ told.a2.given.1 _ c.refusal_numbers.ensures told.before.before.args.counts.now _ (rw (refusal_numbered _)))
-    (λ c. let told = c.before in
-    told_numbers _ _ told.enum_told.given.1 _ c.refuse.ensures told.before.before.args.counts.now _ refl))
+pub returns-in-Read : goal.returns-in-Read
+returns-in-Read c =
+    let whole = 
+    told_numbers _ _ c.in-Read.is _ c.accept.ensures c.args.counts.now _ refl in
+    record { answer = whole.0; counts = whole.1 }
+
+pub returns-in-Refused : goal.returns-in-Refused
+returns-in-Refused c =
+    let whole = 
+    told_numbers _ _ c.in-Refused.is _ c.refusal_numbers.ensures c.args.counts.now _ (rw (refusal_numbered _)) in
+    record { answer = whole.0; counts = whole.1 }
+
+pub returns-in-BufferShort : goal.returns-in-BufferShort
+returns-in-BufferShort c =
+    let whole = 
+    told_numbers _ _ c.in-BufferShort.is _ c.refuse.ensures c.args.counts.now _ refl in
+    record { answer = whole.0; counts = whole.1 }
