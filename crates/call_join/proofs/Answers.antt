@@ -1,18 +1,15 @@
 -- The answer of the join, case by case, and what one that is no refusal says of both lists. Assumes nothing.
 use mathlib.Core.Path.{◌≡◌, refl}
 use mathlib.Core.Bool.{Bool, true, false, cond}
-use mathlib.Core.List.{List, [], ◌∷◌}
+use mathlib.Core.List.{List}
 use Prim.Native.Nat.{ℕ, ◌+◌, ◌*◌, ◌≤◌, ◌<◌}
 use native.Mathlib.Omega.{arith}
-use denote.Enum.Declared.{tag_of}
-use types.Run.{OneOf, miss}
 use borrow.Author.Tests.{lt-ltb, le-ltb, ltb-false, le-leb, lt-leb, leb-true}
 use lib.Dec.{ltb, leb}
 use Rattle.call.specs.Flat.{HANDED_WIDTH}
 use Rattle.call_join.specs.Join.{call_count, first_bad_call, first_below, join_answer, joined_after}
 use Rattle.call_join.specs.declared.JoinAnswer.{JoinAnswer}
 use Rattle.call_join.specs.declared.JoinAnswer.TheVariants.{Joined, TooManyRecords, BadRecord, OutOfOrder, BufferShort}
-use Rattle.call_join.specs.contracts.JoinAnswer.{the_type}
 
 module _ (limit : ℕ) (first second : List ℕ) (room : ℕ) where
   pub over_first : limit < call_count first → TooManyRecords ≡ join_answer limit first second room
@@ -129,11 +126,11 @@ module _ (limit : ℕ) (first second : List ℕ) (room : ℕ) where
             fits = leb-true _ _ hz;
           }
 
--- a refusal writes nothing; its case is not the first, which is Joined
-pub refused_keeps : (first second joined : List ℕ) (a : JoinAnswer) → OneOf (1 ∷ 2 ∷ 3 ∷ 4 ∷ []) (tag_of the_type a)
+-- a refusal, any answer but Joined, writes nothing
+pub refused_keeps : (first second joined : List ℕ) (a : JoinAnswer) → ((calls : ℕ) → a ≡ Joined calls → ⊥)
     → joined ≡ joined_after first second a joined
 unfolding joined_after
-refused_keeps first second joined (Joined calls) h = absurd (miss (1 ∷ 2 ∷ 3 ∷ 4 ∷ []) 0 tt h)
+refused_keeps first second joined (Joined calls) h = absurd (h calls refl)
 refused_keeps first second joined TooManyRecords h = refl
 refused_keeps first second joined (BadRecord place) h = refl
 refused_keeps first second joined (OutOfOrder place) h = refl
