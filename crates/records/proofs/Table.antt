@@ -22,7 +22,7 @@ use Rattle.records.specs.Table.{table_answer, row_at, table_after}
 use Rattle.records.specs.declared.TableAnswer.{TableAnswer}
 use Rattle.records.specs.declared.TableAnswer.TheVariants.{Made, TooManyRecords, BadRecord, BufferShort}
 use Rattle.records.proofs.Records.{all_good}
-use Rattle.records.specs.contracts.TableAnswer.{the_type}
+
 
 -- Rows one behind the other
 
@@ -145,9 +145,9 @@ after_length w row padding l BufferShort table = refl
 
 -- a refusal writes nothing; its case is not the first, which is Made
 pub refused_keeps : (w : ℕ) (row : List ℕ → List ℕ) (padding l table : List ℕ) (answer : TableAnswer)
-    → OneOf (1 ∷ 2 ∷ 3 ∷ []) (tag_of the_type answer) → table ≡ table_after w row padding l answer table
+    → ((rows : ℕ) → answer ≡ Made rows → ⊥) → table ≡ table_after w row padding l answer table
 unfolding table_after
-refused_keeps w row padding l table (Made rows) h = absurd (miss (1 ∷ 2 ∷ 3 ∷ []) 0 tt h)
+refused_keeps w row padding l table (Made rows) h = absurd (h rows refl)
 refused_keeps w row padding l table TooManyRecords h = refl
 refused_keeps w row padding l table (BadRecord place) h = refl
 refused_keeps w row padding l table BufferShort h = refl
