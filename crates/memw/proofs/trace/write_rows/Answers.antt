@@ -1,14 +1,13 @@
 -- `memw::trace::write_rows` meets its contract. The invariant: the table is what it is to be after `k` rows. A turn writes row `k` into the
 -- part that was lent. Assumes nothing.
 use mathlib.Core.Path.{◌≡◌, refl, sym, ap, ◌∙◌}
-use Prim.Native.Nat.{ℕ, ◌+◌, ◌-◌, ◌*◌, ◌≤◌}
+use Prim.Native.Nat.{ℕ, ◌+◌, ◌*◌, ◌≤◌}
 use native.Mathlib.Omega.{arith}
-use borrow.Author.Rules.{rules}
 use lib.ListN.{length, length-take, length-drop}
 use Rattle.lists.proofs.Flat.{row_within}
 use Rattle.records.specs.Records.{record_count}
 use Rattle.records.specs.declared.TableAnswer.TheVariants.{Made}
-use Rattle.memw.specs.Tables.{row_width, memw_after}
+use Rattle.memw.specs.Tables.{row_width}
 use Rattle.memw.proofs.AccessTables.{record_width_bounds, no_rows, next_row, after_length}
 use Rattle.memw.proofs.trace.write_rows.Goals as goal
 
