@@ -2,11 +2,9 @@
 -- Assumes nothing.
 use mathlib.Core.Path.{◌≡◌, refl, sym, ap, ◌∙◌}
 use mathlib.Core.Bool.{Bool, true, false, cond}
-use mathlib.Core.List.{List, [], ◌∷◌}
+use mathlib.Core.List.{List}
 use Prim.Native.Nat.{ℕ, ◌*◌, ◌≤◌, ◌<◌}
 use native.Mathlib.Omega.{arith}
-use denote.Enum.Declared.{tag_of}
-use types.Run.{OneOf, miss}
 use borrow.Author.Tests.{lt-ltb, le-ltb, ltb-false, leb-true}
 use lib.Dec.{ltb, leb}
 use Rattle.records.specs.Records.{record_count, record_at}
@@ -18,7 +16,6 @@ use Rattle.routing.specs.declared.RouteAnswer.TheVariants as route
 use Rattle.lookups.specs.Lookups.{PAIR_WIDTH, pair_count, lookup_refusal, lookup_answer, lookups_after}
 use Rattle.lookups.specs.declared.LookupAnswer.{LookupAnswer}
 use Rattle.lookups.specs.declared.LookupAnswer.TheVariants.{Written, TooManyRecords, BadRecord, BadAddress, BufferShort}
-use Rattle.lookups.specs.contracts.LookupAnswer.{the_type}
 
 -- what a buffer of `room` numbers makes of routing's answer
 abbrev pub roomed : ℕ → RouteAnswer → LookupAnswer
@@ -71,10 +68,10 @@ module _ (limit : ℕ) (l : List ℕ) (room : ℕ) where
       step false false true g hx hy hz e =
           record { allowed = ltb-false _ _ hx; fine = ltb-false _ _ hy; counted = cc; fits = leb-true _ _ hz }
 
--- a refusal writes nothing; its case is not the first, which is Written
-pub refused_keeps : (l lookups : List ℕ) (a : LookupAnswer) → OneOf (1 ∷ 2 ∷ 3 ∷ 4 ∷ []) (tag_of the_type a) → lookups ≡ lookups_after l a lookups
+-- a refusal, which is any answer but Written, writes nothing
+pub refused_keeps : (l lookups : List ℕ) (a : LookupAnswer) → ((pairs : ℕ) → a ≡ Written pairs → ⊥) → lookups ≡ lookups_after l a lookups
 unfolding lookups_after
-refused_keeps l lookups (Written pairs) h = absurd (miss (1 ∷ 2 ∷ 3 ∷ 4 ∷ []) 0 tt h)
+refused_keeps l lookups (Written pairs) h = absurd (h pairs refl)
 refused_keeps l lookups TooManyRecords h = refl
 refused_keeps l lookups (BadRecord place) h = refl
 refused_keeps l lookups (BadAddress place) h = refl
