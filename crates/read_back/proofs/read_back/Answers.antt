@@ -20,7 +20,6 @@ holds-requires c =
 
 pub returns-then-not-holds : goal.returns-then-not-holds
 returns-then-not-holds c =
-    let holds : c.holds.result ≡ true = c.if-not-holds.false in
     short _ _ _ _ _ (sym c.check.ensures ∙ c.in-Passed.is) (sym c.holds.ensures ∙ c.if-not-holds.true)
 
 pub write-found-requires : goal.write-found-requires
@@ -38,7 +37,7 @@ returns-else-not-holds c =
     let holds : c.holds.result ≡ true = c.if-not-holds.false in
     let done = c.write-found.ensures in
     read _ _ _ _ _ (sym c.check.ensures ∙ c.in-Passed.is) (sym c.holds.ensures ∙ holds) _
-    done.0 _ _ done.1.0 done.1.1
+    done.counts _ _ done.ops done.calls
 
 pub returns-in-Refused : goal.returns-in-Refused
 returns-in-Refused c = refused _ _ _ _ _ (sym c.check.ensures ∙ c.in-Refused.is)

@@ -20,18 +20,18 @@ told_numbers a told e r q counts later k = (
 
 pub returns-in-Read : goal.returns-in-Read
 returns-in-Read c =
-    let whole = 
+    let whole =
     told_numbers _ _ c.in-Read.is _ c.accept.ensures c.args.counts.now _ refl in
     record { answer = whole.0; counts = whole.1 }
 
 pub returns-in-Refused : goal.returns-in-Refused
 returns-in-Refused c =
-    let whole = 
+    let whole =
     told_numbers _ _ c.in-Refused.is _ c.refusal_numbers.ensures c.args.counts.now _ (rw (refusal_numbered _)) in
     record { answer = whole.0; counts = whole.1 }
 
 pub returns-in-BufferShort : goal.returns-in-BufferShort
 returns-in-BufferShort c =
-    let whole = 
+    let whole =
     told_numbers _ _ c.in-BufferShort.is _ c.refuse.ensures c.args.counts.now _ refl in
     record { answer = whole.0; counts = whole.1 }

@@ -41,8 +41,7 @@ one_more-calls-requires c =
 
 pub loop-k-preserved : goal.loop-k-preserved
 loop-k-preserved c =
-    let rows_of : List ℕ = c.args.rows.now in
-    (
+    let rows_of : List ℕ = c.args.rows.now in (
       omega arith,
       row_counted rows_of c.requires false c.loop-k.k _ c.record_at-row.ensures c.loop-k.ops _ c.loop-k.invariant.1
           (c.one_more-ops.ensures ∙ ap (λ b. one_more b c.loop-k.ops) c.is_read.ensures),
@@ -55,7 +54,6 @@ returns c =
     let rows_of : List ℕ = c.args.rows.now in
     let at = c.loop-k in
     let l = rows_of in
-    
     let whole : at.k ≡ length l / COLUMNS = omega arith in
     record {
       is_ops = all_counted l c.requires false at.k whole at.ops at.invariant.1;
