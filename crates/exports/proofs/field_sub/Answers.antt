@@ -1,0 +1,7 @@
+-- `exports::field_sub` meets its contract: its answer is the entry's answer in numbers. Assumes nothing.
+use borrow.Author.Rules.{rules}
+use mathlib.Core.Path.{◌∙◌}
+use Rattle.exports.proofs.field_sub.Goals as goal
+
+pub returns : goal.returns
+returns c = record { answer = c.numbers.ensures ∙ c.field_sub.ensures.answer }

@@ -1,0 +1,48 @@
+-- `exports::flat_expansion::collect_copy_ops` meets its contract: each way out is a case of the definition. Assumes nothing.
+use mathlib.Core.Path.{◌≡◌, sym, ap, subst, ◌∙◌}
+use mathlib.Core.Bool.{false}
+use Prim.Native.Nat.{ℕ}
+use borrow.Author.Rules.{rules}
+use borrow.Author.Tests.{ltb-false}
+use Rattle.call.specs.Calls.{kind_number, no_kind}
+use Rattle.call.proofs.GoodCalls.{kind_back}
+use Rattle.expansion.specs.Tries.{under, Lent, lent, Try, try_of}
+use Rattle.expansion.specs.Refusals.{ExpansionNumbers, expansion_numbers}
+use Rattle.expansion.specs.Expansion.{Done}
+use Rattle.exports.proofs.FlatExpansion.{ten, refused_flat, taken_flat}
+use Rattle.exports.proofs.flat_expansion.collect_copy_ops.Goals as goal
+
+pub returns-then-no_kind : goal.returns-then-no_kind
+returns-then-no_kind c =
+    let slices_in : Lent = lent c.args.bytes.now c.args.stamps.now c.args.ops.now c.args.accesses.now in
+    let with_kind_place : ℕ → Try = λ k. let a = c.args in try_of (record { kind = k; stamp = a.timestamp; src = a.src; dst = a.dst; count = a.count }) slices_in in
+    let handed : Try = with_kind_place c.args.kind in
+    ten c.args.gap handed c.args.counts.now
+    (sym c.no_kind.ensures ∙ c.if-no_kind.true) _ c.refuse.ensures
+
+pub returns-then-answer-ne0 : goal.returns-then-answer-ne0
+returns-then-answer-ne0 c =
+    let slices_in : Lent = lent c.args.bytes.now c.args.stamps.now c.args.ops.now c.args.accesses.now in
+    let with_kind_place : ℕ → Try = λ k. let a = c.args in try_of (record { kind = k; stamp = a.timestamp; src = a.src; dst = a.dst; count = a.count }) slices_in in
+    let handed : Try = with_kind_place c.args.kind in
+    let found : ExpansionNumbers = expansion_numbers c.collect_copy_ops-found.result in
+    let is_kind : no_kind entry.args.kind ≡ false = let tested = called.before in sym tested.before.no_kind.ensures ∙ tested.if-no_kind.left in
+    let back : kind_number called.kind_of.result ≡ entry.args.kind = ap kind_number called.kind_of.ensures ∙ kind_back entry.args.kind (ltb-false 2 entry.args.kind is_kind) in
+    let done_as : (after : Lent) → Done (under entry.args.gap) (with_kind_place entry (kind_number called.kind_of.result)) found after
+    → Done (under entry.args.gap) (handed entry) found after = λ after. subst (λ (k : ℕ). Done (under entry.args.gap) (with_kind_place entry k) found after) back in
+    let done = done_as _ c.collect_copy_ops-found.ensures in
+    refused_flat c.args.gap handed c.args.counts.now is_kind found _ done _ c.numbers-answer.ensures c.if-answer-ne0.true
+
+pub returns : goal.returns
+returns c =
+    let slices_in : Lent = lent c.args.bytes.now c.args.stamps.now c.args.ops.now c.args.accesses.now in
+    let with_kind_place : ℕ → Try = λ k. let a = c.args in try_of (record { kind = k; stamp = a.timestamp; src = a.src; dst = a.dst; count = a.count }) slices_in in
+    let handed : Try = with_kind_place c.args.kind in
+    let found : ExpansionNumbers = expansion_numbers c.collect_copy_ops-found.result in
+    let is_kind : no_kind entry.args.kind ≡ false = let tested = called.before in sym tested.before.no_kind.ensures ∙ tested.if-no_kind.left in
+    let back : kind_number called.kind_of.result ≡ entry.args.kind = ap kind_number called.kind_of.ensures ∙ kind_back entry.args.kind (ltb-false 2 entry.args.kind is_kind) in
+    let done_as : (after : Lent) → Done (under entry.args.gap) (with_kind_place entry (kind_number called.kind_of.result)) found after
+    → Done (under entry.args.gap) (handed entry) found after = λ after. subst (λ (k : ℕ). Done (under entry.args.gap) (with_kind_place entry k) found after) back in
+    let done = done_as _ c.collect_copy_ops-found.ensures in
+    taken_flat c.args.gap handed c.args.counts.now is_kind found _ done _ c.numbers-answer.ensures c.if-answer-ne0.false
+    _ c.access_count.ensures

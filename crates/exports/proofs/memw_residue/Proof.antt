@@ -1,9 +1,0 @@
--- `exports::memw_residue` meets its contract: its answer is the entry's answer in numbers. Assumes nothing.
-use borrow.Author.Rules.{rules}
-use mathlib.Core.Path.{◌∙◌}
-use Rattle.exports.proofs.memw_residue.Statement.{statement}
-use Rattle.exports.proofs.memw_residue.Tie as tie
-
-pub memw_residue_spec : {M : Type 1} → statement M
-memw_residue_spec =
-    tie.close (tie.spec (λ c κs. search rules) (λ c κs. search rules) (λ c. c.memw_residue_numbers.ensures ∙ c.before.memw_residue.ensures.answer))
