@@ -17,7 +17,7 @@ pub returns-then-is_read-gt1 : goal.returns-then-is_read-gt1
 returns-then-is_read-gt1 c =
     let access : RegAccess =
     let a = c.args in
-    pushed (built a.reg_addr (a.val0 ∷ a.val1 ∷ []) (a.old0 ∷ a.old1 ∷ []) a.timestamp a.old-timestamp (eqb a.is_read 1)) in
+    pushed (built a.reg_addr (a.val0 ∷ a.val1 ∷ []) (a.old0 ∷ a.old1 ∷ []) a.timestamp a.old_timestamp (eqb a.is_read 1)) in
     let lent : List ℕ = c.args.«record».now in
     push_ten c.args.is_read access lent _ c.refuse.ensures c.if-is_read-gt1.true
 
@@ -25,7 +25,7 @@ pub returns-then-answer-ne0 : goal.returns-then-answer-ne0
 returns-then-answer-ne0 c =
     let access : RegAccess =
     let a = c.args in
-    pushed (built a.reg_addr (a.val0 ∷ a.val1 ∷ []) (a.old0 ∷ a.old1 ∷ []) a.timestamp a.old-timestamp (eqb a.is_read 1)) in
+    pushed (built a.reg_addr (a.val0 ∷ a.val1 ∷ []) (a.old0 ∷ a.old1 ∷ []) a.timestamp a.old_timestamp (eqb a.is_read 1)) in
     let lent : List ℕ = c.args.«record».now in
     let answer_at : c.numbers-told.result.answer ≡ access_answer c.args.is_read access =
     ap (λ (n : AccessNumbers). n.answer) (c.numbers-told.ensures ∙ c.push_reg_access-access.ensures.answer)
@@ -36,7 +36,7 @@ pub returns-then-answer-ne0-2 : goal.returns-then-answer-ne0-2
 returns-then-answer-ne0-2 c =
     let access : RegAccess =
     let a = c.args in
-    pushed (built a.reg_addr (a.val0 ∷ a.val1 ∷ []) (a.old0 ∷ a.old1 ∷ []) a.timestamp a.old-timestamp (eqb a.is_read 1)) in
+    pushed (built a.reg_addr (a.val0 ∷ a.val1 ∷ []) (a.old0 ∷ a.old1 ∷ []) a.timestamp a.old_timestamp (eqb a.is_read 1)) in
     let lent : List ℕ = c.args.«record».now in
     let answer_at : c.numbers-told.result.answer ≡ access_answer c.args.is_read access =
     ap (λ (n : AccessNumbers). n.answer) (c.numbers-told.ensures ∙ c.push_reg_access-access.ensures.answer)
@@ -47,7 +47,7 @@ pub returns : goal.returns
 returns c =
     let access : RegAccess =
     let a = c.args in
-    pushed (built a.reg_addr (a.val0 ∷ a.val1 ∷ []) (a.old0 ∷ a.old1 ∷ []) a.timestamp a.old-timestamp (eqb a.is_read 1)) in
+    pushed (built a.reg_addr (a.val0 ∷ a.val1 ∷ []) (a.old0 ∷ a.old1 ∷ []) a.timestamp a.old_timestamp (eqb a.is_read 1)) in
     let lent : List ℕ = c.args.«record».now in
     let answer_at : c.numbers-told.result.answer ≡ access_answer c.args.is_read access =
     ap (λ (n : AccessNumbers). n.answer) (c.numbers-told.ensures ∙ c.push_reg_access-access.ensures.answer)

@@ -26,10 +26,10 @@ returns-then-answer-ne0 c =
     let with_kind_place : ℕ → Try = λ k. let a = c.args in try_of (record { kind = k; stamp = a.timestamp; src = a.src; dst = a.dst; count = a.count }) slices_in in
     let handed : Try = with_kind_place c.args.kind in
     let found : ExpansionNumbers = expansion_numbers c.collect_copy_ops-found.result in
-    let is_kind : no_kind entry.args.kind ≡ false = let tested = called.before in sym tested.before.no_kind.ensures ∙ tested.if-no_kind.left in
-    let back : kind_number called.kind_of.result ≡ entry.args.kind = ap kind_number called.kind_of.ensures ∙ kind_back entry.args.kind (ltb-false 2 entry.args.kind is_kind) in
-    let done_as : (after : Lent) → Done (under entry.args.gap) (with_kind_place entry (kind_number called.kind_of.result)) found after
-    → Done (under entry.args.gap) (handed entry) found after = λ after. subst (λ (k : ℕ). Done (under entry.args.gap) (with_kind_place entry k) found after) back in
+    let is_kind : no_kind c.args.kind ≡ false = sym c.no_kind.ensures ∙ c.if-no_kind.false in
+    let back : kind_number c.kind_of.result ≡ c.args.kind = ap kind_number c.kind_of.ensures ∙ kind_back c.args.kind (ltb-false 2 c.args.kind is_kind) in
+    let done_as : (after : Lent) → Done (under c.args.gap) (with_kind_place (kind_number c.kind_of.result)) found after
+    → Done (under c.args.gap) handed found after = λ after. subst (λ (k : ℕ). Done (under c.args.gap) (with_kind_place k) found after) back in
     let done = done_as _ c.collect_copy_ops-found.ensures in
     refused_flat c.args.gap handed c.args.counts.now is_kind found _ done _ c.numbers-answer.ensures c.if-answer-ne0.true
 
@@ -39,10 +39,10 @@ returns c =
     let with_kind_place : ℕ → Try = λ k. let a = c.args in try_of (record { kind = k; stamp = a.timestamp; src = a.src; dst = a.dst; count = a.count }) slices_in in
     let handed : Try = with_kind_place c.args.kind in
     let found : ExpansionNumbers = expansion_numbers c.collect_copy_ops-found.result in
-    let is_kind : no_kind entry.args.kind ≡ false = let tested = called.before in sym tested.before.no_kind.ensures ∙ tested.if-no_kind.left in
-    let back : kind_number called.kind_of.result ≡ entry.args.kind = ap kind_number called.kind_of.ensures ∙ kind_back entry.args.kind (ltb-false 2 entry.args.kind is_kind) in
-    let done_as : (after : Lent) → Done (under entry.args.gap) (with_kind_place entry (kind_number called.kind_of.result)) found after
-    → Done (under entry.args.gap) (handed entry) found after = λ after. subst (λ (k : ℕ). Done (under entry.args.gap) (with_kind_place entry k) found after) back in
+    let is_kind : no_kind c.args.kind ≡ false = sym c.no_kind.ensures ∙ c.if-no_kind.false in
+    let back : kind_number c.kind_of.result ≡ c.args.kind = ap kind_number c.kind_of.ensures ∙ kind_back c.args.kind (ltb-false 2 c.args.kind is_kind) in
+    let done_as : (after : Lent) → Done (under c.args.gap) (with_kind_place (kind_number c.kind_of.result)) found after
+    → Done (under c.args.gap) handed found after = λ after. subst (λ (k : ℕ). Done (under c.args.gap) (with_kind_place k) found after) back in
     let done = done_as _ c.collect_copy_ops-found.ensures in
     taken_flat c.args.gap handed c.args.counts.now is_kind found _ done _ c.numbers-answer.ensures c.if-answer-ne0.false
     _ c.access_count.ensures

@@ -28,28 +28,28 @@ returns-then-flat-gt4294967295 c =
 pub returns-then-answer-ne0 : goal.returns-then-answer-ne0
 returns-then-answer-ne0 c =
     let call : Call = let a = c.args in record { kind = a.kind; stamp = a.timestamp; src = a.src; dst = a.dst; count = a.count } in
-    let step : let a = start.args in register_step kind_at.kind_of.result a.timestamp a.src a.dst a.count c.state_of.result
-    ≡ flat_step (call start) start.args.state.now = same_step (call start) start.args.state.now start.args.records.now _ _ kind_at.kind_of.ensures c.state_of.ensures in
+    let step : let a = c.args in register_step c.kind_of.result a.timestamp a.src a.dst a.count c.state_of.result
+    ≡ flat_step call c.args.state.now = same_step call c.args.state.now c.args.records.now _ _ c.kind_of.ensures c.state_of.ensures in
     let answer_at : c.numbers-answer.result ≡ flat_answer call c.args.state.now =
     c.numbers-answer.ensures
     ∙ c.collect_copy_register_ops-step.ensures.answer
     ∙ ap (λ (x : RegisterStep). step_numbers x.answer) step
     ∙ same_answer call c.args.state.now c.args.records.now
-    (sym c.no_kind.ensures ∙ c.if-no_kind.left) c.if-flat-gt4294967295.left in
+    (sym c.no_kind.ensures ∙ c.if-no_kind.false) c.if-flat-gt4294967295.false in
     step_refused_lem call c.args.state.now c.args.records.now _ answer_at c.if-answer-ne0.true
 
 pub returns : goal.returns
 returns c =
     let call : Call = let a = c.args in record { kind = a.kind; stamp = a.timestamp; src = a.src; dst = a.dst; count = a.count } in
-    let step : let a = start.args in register_step kind_at.kind_of.result a.timestamp a.src a.dst a.count c.state_of.result
-    ≡ flat_step (call start) start.args.state.now = same_step (call start) start.args.state.now start.args.records.now _ _ kind_at.kind_of.ensures c.state_of.ensures in
+    let step : let a = c.args in register_step c.kind_of.result a.timestamp a.src a.dst a.count c.state_of.result
+    ≡ flat_step call c.args.state.now = same_step call c.args.state.now c.args.records.now _ _ c.kind_of.ensures c.state_of.ensures in
     let answer_at : c.numbers-answer.result ≡ flat_answer call c.args.state.now =
     c.numbers-answer.ensures
     ∙ c.collect_copy_register_ops-step.ensures.answer
     ∙ ap (λ (x : RegisterStep). step_numbers x.answer) step
     ∙ same_answer call c.args.state.now c.args.records.now
-    (sym c.no_kind.ensures ∙ c.if-no_kind.left) c.if-flat-gt4294967295.left in
+    (sym c.no_kind.ensures ∙ c.if-no_kind.false) c.if-flat-gt4294967295.false in
     let done = c.collect_copy_register_ops-step.ensures in
     step_taken call c.args.state.now c.args.records.now _ answer_at c.if-answer-ne0.false _ _
-    (c.state_numbers.ensures ∙ ap state_numbers (done.1.0 ∙ ap (λ (x : RegisterStep). x.state) step))
-    (done.1.1 ∙ ap (λ (x : RegisterStep). x.records) step)
+    (c.state_numbers.ensures ∙ ap state_numbers (done.state ∙ ap (λ (x : RegisterStep). x.state) step))
+    (done.records ∙ ap (λ (x : RegisterStep). x.records) step)
