@@ -8,24 +8,31 @@ use Rattle.routing.specs.declared.RouteAnswer.{RouteAnswer}
 use Rattle.routing.specs.declared.split.Counts.{Counts}
 use Rattle.routing.proofs.Judging.{RoutedFacts, routed_facts, all_routable}
 use Rattle.routing.proofs.split.route.Goals as goal
+use Rattle.routing.proofs.split.route.Goals.{After-route_answer-answer}
+
+-- the lent lists, before anything is written
+abbrev lent : After-route_answer-answer → Lists
+lent c = lists c.args.register.now c.args.aligned.now c.args.general.now
+
+-- what an answer that is no refusal says
+facts_at : (c : After-route_answer-answer) (counts : Counts) → c.route_answer-answer.result ≡ routed counts
+    → RoutedFacts c.args.limit c.args.accesses.now (rooms_of (lent c)) counts
+facts_at c counts told =
+    routed_facts c.args.limit c.args.accesses.now (rooms_of (lent c)) counts (sym c.route_answer-answer.ensures ∙ told)
 
 pub write_routes-requires : goal.write_routes-requires
 write_routes-requires c =
-    let lent : Lists = lists c.args.register.now c.args.aligned.now c.args.general.now in
-    let facts_at : (counts : Counts) → c.route_answer-answer.result ≡ routed counts →
-    RoutedFacts c.args.limit c.args.accesses.now (rooms_of lent) counts = λ counts told.
-    routed_facts c.args.limit c.args.accesses.now (rooms_of lent) counts (sym c.route_answer-answer.ensures ∙ told) in
-    let f = facts_at (three _ _ _) c.in-Routed.is in
+    let f = facts_at (goal.at.write_routes-requires c).After-route_answer-answer (three _ _ _) c.in-Routed.is in
     (omega (arith, f.allowed), all_routable c.args.accesses.now f.fine, f.holds)
 
 pub returns-in-Routed : goal.returns-in-Routed
 unfolding lists_after
 returns-in-Routed c =
-    let lent : Lists = lists c.args.register.now c.args.aligned.now c.args.general.now in
+    let lent_at = lent (goal.at.returns-in-Routed c).After-route_answer-answer in
     let wrote = c.write_routes.ensures in record {
       answer = c.route_answer-answer.ensures;
       lists = (λ i. lists (wrote Register i) (wrote Aligned i) (wrote General i))
-          ∙ ap (λ (a : RouteAnswer). lists_after c.args.accesses.now a lent) (sym c.in-Routed.is);
+          ∙ ap (λ (a : RouteAnswer). lists_after c.args.accesses.now a lent_at) (sym c.in-Routed.is);
     }
 
 pub returns-in-TooManyRecords : goal.returns-in-TooManyRecords
