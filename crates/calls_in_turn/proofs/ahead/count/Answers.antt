@@ -1,10 +1,6 @@
 -- `calls_in_turn::ahead::count` meets its contract. Assumes nothing.
-use mathlib.Core.Path.{◌≡◌}
-use Prim.Native.Nat.{◌+◌}
 use native.Mathlib.Omega.{arith}
 use borrow.Author.Tests.{lt-ltb, le-ltb}
-use lib.Dec.{ltb}
-use Rattle.words.specs.Words.{bit}
 use Rattle.expansion.specs.Tries.{under, lengths_are}
 use Rattle.calls_in_turn.proofs.Counting.{count_start, count_turn, count_end}
 use Rattle.calls_in_turn.proofs.ahead.count.Goals as goal
@@ -21,10 +17,9 @@ pub loop-k-preserved : goal.loop-k-preserved
 loop-k-preserved c =
     let told = c.records_of-added in
     let a = c.args in
-    let one : c.if-added-gt0.accepted ≡ c.loop-k.accepted + bit (ltb 0 told.result) =
-    grind (arith, lt-ltb 0 told.result, le-ltb 0 told.result) in
     count_turn (under a.gap) (lengths_are a.cells a.stamped a.room a.space) a.calls.now _ _ _ _ c.loop-k.invariant
-    c.loop-k-test.true _ c.record_at-call.ensures _ _ told.ensures.value told.ensures.result_bound one
+    c.loop-k-test.true _ c.record_at-call.ensures _ _ told.ensures.value told.ensures.result_bound
+    (grind (arith, lt-ltb 0 told.result, le-ltb 0 told.result))
 
 pub returns : goal.returns
 returns c =
