@@ -11,8 +11,7 @@ use answer::{Answer, refuse};
 use lists::slices::put;
 
 // The route of the access of the register at `reg_addr`, or 10 for an `is_read` above 1, then 11; the record goes to `record`.
-#[unsafe(no_mangle)]
-pub extern "C" fn push_reg_access(
+pub fn push_reg_access(
     reg_addr: u64,
     val0: u32,
     val1: u32,

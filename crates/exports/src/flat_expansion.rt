@@ -9,8 +9,7 @@ use call::{kind_of, no_kind};
 use expansion::ExpansionAnswer;
 
 // Expands a call over a window, or 10 for a kind above 2, then 7, 8, 1, 3, 5, 2 and 9.
-#[unsafe(no_mangle)]
-pub extern "C" fn collect_copy_ops(
+pub fn collect_copy_ops(
     kind: u64,
     timestamp: u64,
     src: u64,

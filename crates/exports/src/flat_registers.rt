@@ -12,12 +12,7 @@ use lists::slices::{put, put_at};
 use registers::RegisterState;
 
 // The state in which a program starts.
-#[unsafe(no_mangle)]
-pub extern "C" fn new_register_state(
-    entry_point: u64,
-    stack_top: u64,
-    state: &mut [u64; 68],
-) -> Answer
+pub fn new_register_state(entry_point: u64, stack_top: u64, state: &mut [u64; 68]) -> Answer
     ensures answer { result ≡ accepted 0 }
     ensures state { state.new ≡ state_numbers (new_state entry_point stack_top) }
 {
@@ -26,8 +21,7 @@ pub extern "C" fn new_register_state(
 }
 
 // The register step of a call: 10 for a kind above 2 or an index of 2^32 or more, then 4, 5, 6. A refusal writes nothing.
-#[unsafe(no_mangle)]
-pub extern "C" fn collect_copy_register_ops(
+pub fn collect_copy_register_ops(
     kind: u64,
     timestamp: u64,
     src: u64,
