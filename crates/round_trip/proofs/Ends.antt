@@ -2,16 +2,14 @@
 -- Assumes nothing.
 use mathlib.Core.Path.{◌≡◌, refl, sym, ap, ◌∙◌}
 use mathlib.Core.Bool.{Bool, true, false, cond, ◌||◌}
-use mathlib.Core.List.{List, [], ◌∷◌}
+use mathlib.Core.List.{List}
 use Prim.Native.Nat.{ℕ, ◌-◌, ◌*◌, ◌/◌, ◌%◌, ◌≤◌}
 use native.Mathlib.Nat.{sub-zero}
 use native.Mathlib.Omega.{arith}
 use borrow.Author.Tests.{ltb-false}
-use denote.Enum.Declared.{tag_of}
 use lib.Dec.{ltb, eqb}
 use lib.ListN.{length, take}
 use lib.Seq.{take_at}
-use types.Run.{OneOf, miss}
 use Rattle.lists.specs.Lists.{store}
 use Rattle.lists.proofs.Store.{length_store, store_eq}
 use Rattle.records.specs.Records.{LIMIT, record_count}
@@ -34,7 +32,6 @@ use Rattle.round_trip.specs.Inner.{decided, foretold, Tabled}
 use Rattle.round_trip.specs.RoundTrip.{TypedTrip}
 use Rattle.round_trip.specs.declared.RoundTripAnswer.{RoundTripAnswer}
 use Rattle.round_trip.specs.declared.RoundTripAnswer.TheVariants.{Passed, TooManyRecords, NotWhole, BufferShort}
-use Rattle.round_trip.specs.contracts.RoundTripAnswer.{the_type}
 use Rattle.round_trip.proofs.Whole.{handed_length, decided_of, foretold_of, made, foretold_is}
 
 -- `decide` and `foretell`
@@ -148,16 +145,17 @@ module _ (t : Trip) (typed : TypedTrip t) (a : RoundTripAnswer) (e : a ≡ foret
       let same : (trip_numbers t).rows ≡ rows = ap (λ (x : RoundTripNumbers). x.rows) told in
       record { answer = numbers; lists = rw (none, same) r }
 
-  -- a refusal writes nothing; its case is not the first, which is Passed
-  pub ended_refused : OneOf (1 ∷ 2 ∷ 3 ∷ []) (tag_of the_type a) → Ended t (round_trip_numbers a) t.lists
+  -- a refusal writes nothing; its case is not Passed
+  pub ended_refused : ((rows ops calls : ℕ) → a ≡ Passed rows ops calls → ⊥) → Ended t (round_trip_numbers a) t.lists
   unfolding trip_after
   ended_refused h =
       let other : eqb (trip_numbers t).answer.number 0 ≡ false =
       ap (λ (x : RoundTripNumbers). eqb x.answer.number 0) (sym numbers) ∙ go a h in
       record { answer = numbers; lists = rw other }
     where
-      go : (b : RoundTripAnswer) → OneOf (1 ∷ 2 ∷ 3 ∷ []) (tag_of the_type b) → eqb (round_trip_numbers b).answer.number 0 ≡ false
-      go (Passed rows ops calls) h = absurd (miss (1 ∷ 2 ∷ 3 ∷ []) 0 tt h)
+      go : (b : RoundTripAnswer) → ((rows ops calls : ℕ) → b ≡ Passed rows ops calls → ⊥)
+          → eqb (round_trip_numbers b).answer.number 0 ≡ false
+      go (Passed rows ops calls) h = absurd (h rows ops calls refl)
       go TooManyRecords h = refl
       go (NotWhole place) h = refl
       go BufferShort h = refl
