@@ -23,7 +23,6 @@ use Rattle.records.specs.declared.TableAnswer.{TableAnswer}
 use Rattle.records.specs.declared.TableAnswer.TheVariants.{Made, TooManyRecords, BadRecord, BufferShort}
 use Rattle.records.proofs.Records.{all_good}
 
-
 -- Rows one behind the other
 
 module _ (v : ℕ) (g : ℕ → List ℕ) (h : (j : ℕ) → length (g j) ≡ v) where

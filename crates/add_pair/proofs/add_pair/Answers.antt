@@ -1,6 +1,4 @@
 -- `add_pair`: a list that is no operand is refused first; else the answer is that of the three operands read. Assumes nothing.
-use borrow.Author.Rules.{rules}
-use borrow.Author.Tests.{not-true, not-false}
 use mathlib.Core.Path.{◌≡◌, ap, ◌∙◌}
 use mathlib.Core.Bool.{◌&&◌}
 use Rattle.add_pair.specs.Flat.{operand_of}

@@ -1,5 +1,4 @@
 -- `numbers`: each case's numbers are those that its definition gives. Assumes nothing.
-use borrow.Author.Rules.{rules}
 use mathlib.Core.Path.{sym, ap, ◌∙◌}
 use Rattle.add_pair.specs.Answers.{add_pair_numbers}
 use Rattle.add_pair.proofs.numbers.Goals as goal

@@ -1,5 +1,4 @@
 -- `operands_pair`: the verdict decides the case, and where nothing is refused three numbers are written. Assumes nothing.
-use borrow.Author.Rules.{rules}
 use mathlib.Core.Path.{refl, sym, ◌∙◌}
 use mathlib.Core.List.{[], ◌∷◌}
 use Rattle.field.proofs.Verdicts.{answer_of}
@@ -23,6 +22,6 @@ returns-in-Fine c =
 pub returns-in-Refused : goal.returns-in-Refused
 unfolding operands_answer out_after
 returns-in-Refused c = record {
-      answer = answer_of _ _ c.pair_verdict.ensures c.in-Refused.is;
-      out = refl;
-    }
+  answer = answer_of _ _ c.pair_verdict.ensures c.in-Refused.is;
+  out = refl;
+}

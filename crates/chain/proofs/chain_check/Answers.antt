@@ -1,6 +1,5 @@
 -- `chain_check`: the numbers of the check's answer. Assumes nothing.
 use mathlib.Core.Path.{ap}
-use borrow.Author.Rules.{rules}
 use Rattle.chain.specs.Chain.{chain_numbers}
 use Rattle.chain.proofs.chain_check.Goals as goal
 

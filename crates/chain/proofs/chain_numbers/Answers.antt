@@ -1,6 +1,5 @@
 -- `chain_numbers`: each case's numbers are those that its definition gives. Assumes nothing.
 use mathlib.Core.Path.{sym, ap, ◌∙◌}
-use borrow.Author.Rules.{rules}
 use Rattle.chain.specs.Chain.{chain_numbers}
 use Rattle.chain.proofs.chain_numbers.Goals as goal
 

@@ -1,6 +1,5 @@
 -- `refusal_numbers`: each case's numbers are those that its definition gives. Assumes nothing.
 use mathlib.Core.Path.{sym, ap, ◌∙◌}
-use borrow.Author.Rules.{rules}
 use Rattle.chain.specs.Chain.{refusal_numbers}
 use Rattle.chain.proofs.refusal_numbers.Goals as goal
 

@@ -1,6 +1,5 @@
 -- `classify::classify_memw` meets its contract: a good record has a route, and any other is refused. Assumes nothing.
 use mathlib.Core.Path.{sym, ap, ◌∙◌}
-use borrow.Author.Rules.{rules}
 use Rattle.classify.specs.Classify.{classify_answer, classify_numbers}
 use Rattle.classify.specs.declared.ClassifyAnswer.TheVariants.{Route}
 use Rattle.classify.proofs.classify_memw.Goals as goal

@@ -1,6 +1,5 @@
 -- `classify::numbers` meets its contract: each arm of the match is a case of the definition. Assumes nothing.
 use mathlib.Core.Path.{sym, ap, ◌∙◌}
-use borrow.Author.Rules.{rules}
 use Rattle.classify.specs.Classify.{classify_numbers}
 use Rattle.classify.proofs.numbers.Goals as goal
 

@@ -1,6 +1,5 @@
 -- `residue`: 7 first, and then what the row is found to be; where nothing is refused, the row is of elements and the number is a residue's.
 -- Assumes nothing.
-use borrow.Author.Rules.{rules}
 use borrow.Author.Tests.{ltb-true}
 use mathlib.Core.Path.{sym, ap, ◌∙◌}
 use Prim.Native.Nat.{ℕ}

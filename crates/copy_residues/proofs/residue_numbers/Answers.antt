@@ -1,5 +1,4 @@
 -- `residue_numbers`: each case's numbers are those that its definition gives. Assumes nothing.
-use borrow.Author.Rules.{rules}
 use mathlib.Core.Path.{sym, ap, ◌∙◌}
 use Rattle.copy_residues.specs.Answers.{residue_numbers}
 use Rattle.copy_residues.proofs.residue_numbers.Goals as goal

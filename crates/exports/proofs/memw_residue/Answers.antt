@@ -1,5 +1,4 @@
 -- `exports::memw_residue` meets its contract: its answer is the entry's answer in numbers. Assumes nothing.
-use borrow.Author.Rules.{rules}
 use mathlib.Core.Path.{◌∙◌}
 use Rattle.exports.proofs.memw_residue.Goals as goal
 

@@ -1,7 +1,6 @@
 -- `exports::read_back` meets its contract: its answer and its counts are those of the entry's numbers, and the two buffers are as the entry
 -- left them. Assumes nothing.
 use mathlib.Core.Path.{refl, ap, ◌∙◌}
-use borrow.Author.Rules.{rules}
 use Rattle.read_back.specs.ReadBack.{ReadBackNumbers, counts_after}
 use Rattle.exports.proofs.read_back.Goals as goal
 

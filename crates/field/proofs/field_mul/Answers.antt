@@ -1,6 +1,5 @@
 -- `field_mul` answers by the index of the lowest input that is no element. Assumes nothing.
-use Rattle.std.proofs.Common.{ap, arith, rules}
-
+use Rattle.std.proofs.Common.{ap, arith}
 use Rattle.field.specs.Answers.{mul_answer, field_numbers}
 use Rattle.field.proofs.Answers.{refused_answer, element_answer}
 use Rattle.field.proofs.field_mul.Goals as goal

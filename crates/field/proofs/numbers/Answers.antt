@@ -1,5 +1,5 @@
 -- `numbers`: each case's numbers are those that its definition gives. Assumes nothing.
-use Rattle.std.proofs.Common.{sym, ap, ◌∙◌, rules}
+use Rattle.std.proofs.Common.{sym, ap, ◌∙◌}
 use Rattle.field.specs.Answers.{field_numbers}
 use Rattle.field.proofs.numbers.Goals as goal
 

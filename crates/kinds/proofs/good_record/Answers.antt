@@ -1,5 +1,4 @@
 -- `kinds::good_record` meets its contract, kind by kind. Assumes nothing.
-use borrow.Author.Rules.{rules}
 use Rattle.kinds.proofs.good_record.Goals as goal
 
 pub returns-in-Operation : goal.returns-in-Operation

@@ -1,5 +1,4 @@
 -- `add_pair_carry_hi`: the verdict decides the case, and where nothing is refused the carry has its parts in the row. Assumes nothing.
-use borrow.Author.Rules.{rules}
 use mathlib.Core.Path.{◌≡◌, sym, ap, ◌∙◌}
 use Rattle.field.specs.Rows.{row_verdict}
 use Rattle.field.proofs.Verdicts.{Judged, is_fine, answer_of}

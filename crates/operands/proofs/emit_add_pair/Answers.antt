@@ -1,5 +1,4 @@
 -- `emit_add_pair`: the verdict decides the case, and where nothing is refused both residues have their parts in the row. Assumes nothing.
-use borrow.Author.Rules.{rules}
 use mathlib.Core.Path.{sym, ap, ◌∙◌}
 use Rattle.field.proofs.Verdicts.{answer_of}
 use Rattle.operands.specs.Answers.{pair_answer, pair_numbers}

@@ -1,6 +1,5 @@
 -- `records::numbers` meets its contract: each arm of the match is a case of the definition. Assumes nothing.
 use mathlib.Core.Path.{sym, ap, ◌∙◌}
-use borrow.Author.Rules.{rules}
 use Rattle.records.specs.Table.{table_numbers}
 use Rattle.records.proofs.numbers.Goals as goal
 

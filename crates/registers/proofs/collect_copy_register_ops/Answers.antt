@@ -1,6 +1,5 @@
 -- `registers::collect_copy_register_ops` meets its contract: each kind has its own step. Assumes nothing.
 use mathlib.Core.Path.{◌≡◌, ap}
-use borrow.Author.Rules.{rules}
 use Rattle.registers.specs.Step.{step_numbers, register_step}
 use Rattle.registers.specs.declared.RegisterStep.{RegisterStep}
 use Rattle.registers.proofs.collect_copy_register_ops.Goals as goal

@@ -1,6 +1,5 @@
 -- `registers::numbers` meets its contract: each arm of the match is a case of the definition. Assumes nothing.
 use mathlib.Core.Path.{sym, ap, ◌∙◌}
-use borrow.Author.Rules.{rules}
 use Rattle.registers.specs.Step.{step_numbers}
 use Rattle.registers.proofs.numbers.Goals as goal
 

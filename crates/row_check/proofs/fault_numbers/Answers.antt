@@ -1,6 +1,5 @@
 -- `fault_numbers`: each case's numbers are those that its definition gives. Assumes nothing.
 use mathlib.Core.Path.{sym, ap, ◌∙◌}
-use borrow.Author.Rules.{rules}
 use Rattle.row_check.specs.RowAnswer.{fault_numbers}
 use Rattle.row_check.proofs.fault_numbers.Goals as goal
 

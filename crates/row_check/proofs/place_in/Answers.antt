@@ -1,6 +1,5 @@
 -- `place_in`: each case's place is the one that its definition gives. Assumes nothing.
 use mathlib.Core.Path.{sym, ap, ◌∙◌}
-use borrow.Author.Rules.{rules}
 use Rattle.row_check.specs.RowAnswer.{place_in}
 use Rattle.row_check.proofs.place_in.Goals as goal
 

@@ -1,6 +1,5 @@
 -- `row_numbers`: each case's numbers are those that its definition gives. Assumes nothing.
 use mathlib.Core.Path.{sym, ap, ◌∙◌}
-use borrow.Author.Rules.{rules}
 use Rattle.row_check.specs.RowAnswer.{row_numbers}
 use Rattle.row_check.proofs.row_numbers.Goals as goal
 

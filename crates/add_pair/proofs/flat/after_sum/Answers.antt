@@ -1,5 +1,4 @@
 -- `flat::after_sum`: nowhere from nowhere or from past the end, else its terms further on. Assumes nothing.
-use borrow.Author.Rules.{rules}
 use mathlib.Core.Path.{◌∙◌}
 use Rattle.add_pair.proofs.Walks.{sum_nowhere, sum_past, sum_here}
 use Rattle.add_pair.proofs.flat.after_sum.Goals as goal

@@ -1,10 +1,6 @@
 -- `flat::after_terms`: what is left of the walk from here gives the whole walk's end. Assumes nothing.
-use borrow.Author.Rules.{rules}
-use mathlib.Core.Path.{◌≡◌}
-use Prim.Native.Nat.{◌-◌, ◌≤◌}
+use Prim.Native.Nat.{◌-◌}
 use native.Mathlib.Omega.{arith}
-use Rattle.add_pair.specs.Flat.{after_terms}
-use Rattle.add_pair.specs.declared.Walk.TheVariants.{At}
 use Rattle.add_pair.proofs.Walks.{walk_starts, walk_stops, walk_goes_on, walk_ends}
 use Rattle.add_pair.proofs.flat.after_terms.Goals as goal
 
@@ -16,11 +12,10 @@ returns-in_default c =
     walk_stops _ _ _ _ _ c.loop-k.invariant.1 c.loop-k-test.true c.after_term-next.ensures c.in_default.is
 
 pub loop-k-preserved : goal.loop-k-preserved
-loop-k-preserved c =
-    (
-      omega arith,
-      walk_goes_on _ _ _ _ _ c.loop-k.invariant.1 c.loop-k-test.true c.after_term-next.ensures c.in-At.is,
-    )
+loop-k-preserved c = (
+  omega arith,
+  walk_goes_on _ _ _ _ _ c.loop-k.invariant.1 c.loop-k-test.true c.after_term-next.ensures c.in-At.is,
+)
 
 pub returns : goal.returns
 returns c = walk_ends _ _ _ _ _ c.loop-k.invariant.1 c.loop-k-test.false

@@ -1,10 +1,7 @@
-use borrow.Author.Rules.{rules}
 use mathlib.Core.Path.{◌≡◌}
 use Prim.Native.Nat.{◌-◌, ◌≤◌}
-use native.Mathlib.Omega.{arith}
 use Rattle.add_pair.specs.Flat.{after_terms}
 use Rattle.add_pair.specs.declared.Walk.TheVariants.{At}
-use Rattle.add_pair.proofs.Walks.{walk_starts, walk_stops, walk_goes_on, walk_ends}
 use Rattle.add_pair.proofs.flat.after_terms.Given as goal
 
 abbrev pub invariant-loop-k : goal.invariant-loop-k

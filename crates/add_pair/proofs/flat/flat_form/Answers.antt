@@ -1,5 +1,4 @@
 -- `flat::flat_form`: by the first number. Assumes nothing.
-use borrow.Author.Rules.{rules}
 use Rattle.add_pair.proofs.Walks.{words_form, words_other, sums_form_lem, other_form}
 use Rattle.add_pair.proofs.flat.flat_form.Goals as goal
 

@@ -1,5 +1,4 @@
 -- `flat::four_terms`: term by term. Assumes nothing.
-use borrow.Author.Rules.{rules}
 use mathlib.Core.List.{[], ◌∷◌}
 use Rattle.add_pair.specs.Flat.{four_terms}
 use Rattle.add_pair.proofs.flat.four_terms.Goals as goal

@@ -1,5 +1,4 @@
 -- `flat::is_end`: by the place's case. Assumes nothing.
-use borrow.Author.Rules.{rules}
 use mathlib.Core.Path.{sym, ap}
 use Rattle.add_pair.specs.Flat.{is_end}
 use Rattle.add_pair.proofs.flat.is_end.Goals as goal

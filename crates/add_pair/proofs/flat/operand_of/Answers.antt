@@ -1,5 +1,4 @@
 -- `flat::operand_of`: by the form's case. Assumes nothing.
-use borrow.Author.Rules.{rules}
 use mathlib.Core.Path.{sym, ap, ◌∙◌}
 use Rattle.operands.specs.declared.OperandKind.TheVariants as kind
 use Rattle.add_pair.specs.Flat.{operand_of}

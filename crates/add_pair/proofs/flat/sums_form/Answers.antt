@@ -1,5 +1,4 @@
 -- `flat::sums_form`: two sums exactly if the high one ends the list. Assumes nothing.
-use borrow.Author.Rules.{rules}
 use mathlib.Core.Path.{refl}
 use Rattle.add_pair.proofs.Walks.{sums_nowhere, sums_past, sums_end, sums_more}
 use Rattle.add_pair.proofs.flat.sums_form.Goals as goal

@@ -1,5 +1,4 @@
 -- `flat::term_after`: by the place's case. Assumes nothing.
-use borrow.Author.Rules.{rules}
 use mathlib.Core.Path.{sym, ap, ◌∙◌}
 use Rattle.add_pair.specs.Flat.{term_after}
 use Rattle.add_pair.proofs.flat.term_after.Goals as goal

@@ -1,6 +1,5 @@
 -- `flat::term_from`: past the end the constant 0, else by the tag. A signed number that is put into a term reads back as itself. Assumes
 -- nothing.
-use borrow.Author.Rules.{rules}
 use mir.Facts.{to_z-of_z}
 use mir.Syntax.{w64}
 use Rattle.add_pair.proofs.Terms.{term_past, term_constant, term_column}

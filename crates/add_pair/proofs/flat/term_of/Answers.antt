@@ -1,5 +1,4 @@
 -- `flat::term_of`: a term that the sum has is found by the walk. Assumes nothing.
-use borrow.Author.Rules.{rules}
 use Rattle.add_pair.proofs.Terms.{term_there, term_none}
 use Rattle.add_pair.proofs.flat.term_of.Goals as goal
 

@@ -1,11 +1,9 @@
 -- `check::check`: a walk over the rows with the row before in hand; each way out is what the row check or the link check makes of the
 -- answer. Assumes nothing.
 use mathlib.Core.Path.{◌≡◌, sym, ap, ◌∙◌}
-use mathlib.Core.Logic.{⊎_elim}
 use mathlib.Core.List.{List}
 use Prim.Native.Nat.{ℕ, ◌+◌, ◌*◌, ◌-◌}
 use native.Mathlib.Omega.{arith}
-use borrow.Author.Rules.{rules}
 use lib.ListN.{length, take, drop}
 use Rattle.records.specs.Records.{record_at}
 use Rattle.records.proofs.Records.{record_part}

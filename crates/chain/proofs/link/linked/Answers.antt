@@ -3,7 +3,6 @@ use mathlib.Core.Path.{sym}
 use mathlib.Core.List.{List}
 use Prim.Native.Nat.{ℕ}
 use native.Mathlib.Omega.{arith}
-use borrow.Author.Rules.{rules}
 use Rattle.chain.proofs.Links.{linked_dead, linked_unended, row_stood, standing_none, standing_dead, standing_ended, standing_unended}
 use Rattle.chain.proofs.link.linked.Goals as goal
 

@@ -1,5 +1,4 @@
 -- `link::moved`: two numbers, compared word by word. Assumes nothing.
-use borrow.Author.Rules.{rules}
 use Rattle.chain.proofs.Links.{moved_same}
 use Rattle.chain.proofs.link.moved.Goals as goal
 

@@ -1,5 +1,4 @@
 -- `link::same_stamp`: two numbers, compared word by word. Assumes nothing.
-use borrow.Author.Rules.{rules}
 use Rattle.copy_meaning.proofs.Columns.{stamp_words_lem}
 use Rattle.row_test.proofs.Columns.{in_range}
 use Rattle.chain.proofs.Links.{stamp_same}

@@ -3,7 +3,6 @@
 use mathlib.Core.Path.{◌≡◌, sym, ap, ◌∙◌}
 use mathlib.Core.Bool.{true}
 use native.Mathlib.Omega.{arith}
-use borrow.Author.Rules.{rules}
 use Rattle.access.proofs.Good.{good_length}
 use Rattle.classify.specs.Classify.{is_register_op, classify}
 use Rattle.classify.specs.declared.AccessRoute.TheVariants.{Register}
@@ -33,11 +32,9 @@ returns-then-is_register_op c =
 pub returns-then-is_aligned_op : goal.returns-then-is_aligned_op
 unfolding classify
 returns-then-is_aligned_op c =
-    
     simp (sym c.is_register_op.ensures ∙ c.if-is_register_op.false, sym c.is_aligned_op.ensures ∙ c.if-is_aligned_op.true)
 
 pub returns : goal.returns
 unfolding classify
 returns c =
-    
     simp (sym c.is_register_op.ensures ∙ c.if-is_register_op.false, sym c.is_aligned_op.ensures ∙ c.if-is_aligned_op.false)

@@ -1,5 +1,4 @@
 -- `classify::route::is_register_op` meets its contract: the tests of the definition. Assumes nothing.
-use borrow.Author.Rules.{rules}
 use Rattle.classify.specs.Classify.{is_register_op}
 use Rattle.classify.proofs.route.is_register_op.Goals as goal
 

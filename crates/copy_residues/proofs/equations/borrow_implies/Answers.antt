@@ -1,5 +1,4 @@
 -- `equations::borrow_implies`: computed as it is defined, with the borrow given. Assumes nothing.
-use borrow.Author.Rules.{rules}
 use Rattle.copy_residues.specs.Residues.{borrow_implies}
 use Rattle.copy_residues.proofs.equations.borrow_implies.Goals as goal
 

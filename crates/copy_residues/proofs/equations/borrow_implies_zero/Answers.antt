@@ -1,5 +1,4 @@
 -- `equations::borrow_implies_zero`: computed as it is defined, with the borrow given. Assumes nothing.
-use borrow.Author.Rules.{rules}
 use Rattle.copy_residues.specs.Residues.{borrow_implies_zero}
 use Rattle.copy_residues.proofs.equations.borrow_implies_zero.Goals as goal
 

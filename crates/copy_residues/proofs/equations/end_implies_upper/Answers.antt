@@ -1,5 +1,4 @@
 -- `equations::end_implies_upper`: computed as it is defined, with the borrow given. Assumes nothing.
-use borrow.Author.Rules.{rules}
 use Rattle.copy_residues.specs.Residues.{end_implies}
 use Rattle.copy_residues.proofs.equations.end_implies_upper.Goals as goal
 

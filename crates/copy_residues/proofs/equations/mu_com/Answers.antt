@@ -1,5 +1,4 @@
 -- `equations::mu_com`: the definition's factors, the other way round, with the borrow given. Assumes nothing.
-use borrow.Author.Rules.{rules}
 use mathlib.Core.Path.{ap}
 use Rattle.field.specs.Field.{sub_p}
 use Rattle.field.proofs.Laws.{mul_p_comm}

@@ -1,5 +1,4 @@
 -- `equations::no_wrap`: the definition's factors, the other way round, with the borrow and the carry given. Assumes nothing.
-use borrow.Author.Rules.{rules}
 use Rattle.field.proofs.Laws.{mul_p_comm}
 use Rattle.copy_residues.specs.Residues.{no_wrap}
 use Rattle.copy_residues.proofs.equations.no_wrap.Goals as goal

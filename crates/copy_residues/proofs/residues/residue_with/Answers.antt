@@ -1,6 +1,5 @@
 -- `residues::residue_with`: at each single number the definition computes to the equation that the case's function gives; between 22 and
 -- 28, and at the last number, the numbers that the match has missed say which it is. Assumes nothing.
-use borrow.Author.Rules.{rules}
 use borrow.Author.Tests.{le-ltb, lt-ltb}
 use mathlib.Core.Path.{◌≡◌, ap, ◌∙◌}
 use Prim.Native.Nat.{ℕ, ◌-◌, ◌≤◌, ◌<◌, zero-le}

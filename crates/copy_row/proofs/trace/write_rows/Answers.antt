@@ -1,9 +1,8 @@
 -- `copy_row::trace::write_rows` meets its contract. The invariant: the table is what it is to be after `k` rows. A turn writes row `k`, a
 -- record's or padding, into the part that was lent. Assumes nothing.
 use mathlib.Core.Path.{◌≡◌, refl, sym, ap, ◌∙◌}
-use Prim.Native.Nat.{◌+◌, ◌-◌, ◌≤◌}
+use Prim.Native.Nat.{◌+◌, ◌-◌}
 use native.Mathlib.Omega.{arith}
-use borrow.Author.Rules.{rules}
 use lib.ListN.{length, length-take, length-drop}
 use Rattle.records.specs.declared.TableAnswer.TheVariants.{Made}
 use Rattle.copy_row.specs.Trace.{copy_row, copy_after}

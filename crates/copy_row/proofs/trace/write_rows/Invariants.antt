@@ -1,12 +1,8 @@
-use mathlib.Core.Path.{◌≡◌, refl, sym, ap, ◌∙◌}
-use mathlib.Core.Logic.{⊎_elim}
-use Prim.Native.Nat.{◌+◌, ◌-◌, ◌≤◌}
-use native.Mathlib.Omega.{arith}
-use borrow.Author.Rules.{rules}
-use lib.ListN.{length, length-take, length-drop}
+use mathlib.Core.Path.{◌≡◌}
+use Prim.Native.Nat.{◌-◌, ◌≤◌}
+use lib.ListN.{length}
 use Rattle.records.specs.declared.TableAnswer.TheVariants.{Made}
-use Rattle.copy_row.specs.Trace.{copy_row, copy_after}
-use Rattle.copy_row.proofs.CopyTable.{no_rows, next_row, after_length, row_of_record, row_of_none}
+use Rattle.copy_row.specs.Trace.{copy_after}
 use Rattle.copy_row.proofs.trace.write_rows.Given as goal
 
 abbrev pub invariant-loop-k : goal.invariant-loop-k

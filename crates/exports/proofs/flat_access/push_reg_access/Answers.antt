@@ -4,7 +4,6 @@ use mathlib.Core.List.{List, [], ◌∷◌, ◌++◌}
 use Prim.Native.Nat.{ℕ}
 use lib.Dec.{eqb}
 use lib.ListN.{take, drop}
-use borrow.Author.Rules.{rules}
 use Rattle.access.specs.Tables.{REGISTER_WIDTH}
 use Rattle.classify.specs.declared.AccessNumbers.{AccessNumbers}
 use Rattle.reg_access.specs.RegAccess.{built, pushed}

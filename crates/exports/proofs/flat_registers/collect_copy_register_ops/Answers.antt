@@ -1,7 +1,6 @@
 -- `exports::flat_registers::collect_copy_register_ops` meets its contract: each way out is a case of the definition, and the step that is
 -- called is the definition's. Assumes nothing.
 use mathlib.Core.Path.{◌≡◌, sym, ap, ◌∙◌}
-use borrow.Author.Rules.{rules}
 use Rattle.call.specs.Calls.{Call}
 use Rattle.registers.specs.Step.{register_step, step_numbers}
 use Rattle.registers.specs.declared.RegisterStep.{RegisterStep}

@@ -1,5 +1,5 @@
 -- `element::mul`: the two halves of the product, put together again, are the product. Assumes nothing.
-use Rattle.std.proofs.Common.{ℕ, ◌+◌, ◌*◌, ◌%◌, ◌^◌, ap, ◌∙◌, div-add-mod', rules}
+use Rattle.std.proofs.Common.{ℕ, ◌+◌, ◌*◌, ◌%◌, ◌^◌, ap, ◌∙◌, div-add-mod'}
 use Rattle.field.specs.Field.{mul_p, p}
 use Rattle.field.proofs.element.mul.Goals as goal
 

@@ -1,5 +1,5 @@
 -- `rows::row_refusal_numbers`: each case's numbers are those that its definition gives. Assumes nothing.
-use Rattle.std.proofs.Common.{sym, ap, ◌∙◌, rules}
+use Rattle.std.proofs.Common.{sym, ap, ◌∙◌}
 use Rattle.field.specs.Rows.{row_refusal_numbers}
 use Rattle.field.proofs.rows.row_refusal_numbers.Goals as goal
 

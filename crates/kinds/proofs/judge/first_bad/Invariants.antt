@@ -1,13 +1,9 @@
-use mathlib.Core.Path.{◌≡◌, sym, ap, ◌∙◌}
+use mathlib.Core.Path.{◌≡◌}
 use Prim.Native.Nat.{◌-◌, ◌≤◌}
-use native.Mathlib.Omega.{arith}
-use borrow.Author.Rules.{rules}
-use borrow.Author.Tests.{not-true, not-false}
 use Rattle.lists.specs.Lists.{first}
-use Rattle.records.specs.Records.{record_count, record_at, first_bad}
-use Rattle.records.proofs.Records.{bad_at, bad_start, bad_pass, bad_stop, bad_end, record_within}
+use Rattle.records.specs.Records.{record_count, first_bad}
+use Rattle.records.proofs.Records.{bad_at}
 use Rattle.kinds.specs.Kinds.{kind_width, good_of_kind}
-use Rattle.kinds.proofs.Widths.{width_bounds}
 use Rattle.kinds.proofs.judge.first_bad.Given as goal
 
 abbrev pub invariant-loop-k : goal.invariant-loop-k

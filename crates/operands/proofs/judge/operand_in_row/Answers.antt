@@ -1,5 +1,4 @@
 -- `judge::operand_in_row`: by the operand's kind. Assumes nothing.
-use borrow.Author.Rules.{rules}
 use mathlib.Core.Path.{◌∙◌}
 use mathlib.Core.Bool.{◌&&◌}
 use Rattle.operands.proofs.Operands.{words_ok, sums_ok}

@@ -1,5 +1,4 @@
 -- `judge::operands_in_row`: all three, one after the other. Assumes nothing.
-use borrow.Author.Rules.{rules}
 use mathlib.Core.Bool.{◌&&◌}
 use Rattle.operands.specs.Operands.{operands_in_row}
 use Rattle.operands.proofs.judge.operands_in_row.Goals as goal

@@ -1,5 +1,4 @@
 -- `judge::pair_verdict`: the verdict on what the two tests say. Assumes nothing.
-use borrow.Author.Rules.{rules}
 use mathlib.Core.Path.{◌∙◌}
 use mathlib.Core.Bool.{◌&&◌}
 use Rattle.field.specs.Rows.{row_verdict}

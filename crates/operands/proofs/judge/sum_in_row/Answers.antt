@@ -1,11 +1,9 @@
 -- `judge::sum_in_row`: of at most four terms all passed are in the row, and the first that is not decides. Assumes nothing.
-use borrow.Author.Rules.{rules}
-use borrow.Author.Tests.{not-true, not-false}
-use mathlib.Core.Path.{◌≡◌, sym, ◌∙◌}
+use mathlib.Core.Path.{sym, ◌∙◌}
 use mathlib.Core.Bool.{true}
-use Prim.Native.Nat.{◌-◌, ◌≤◌}
+use Prim.Native.Nat.{◌-◌}
 use native.Mathlib.Omega.{arith}
-use Rattle.operands.specs.Operands.{every, term_in_row, term_at}
+use Rattle.operands.specs.Operands.{term_in_row}
 use Rattle.operands.proofs.Every.{every_none, every_next}
 use Rattle.operands.proofs.Operands.{sum_many, sum_miss, sum_all}
 use Rattle.operands.proofs.judge.sum_in_row.Goals as goal

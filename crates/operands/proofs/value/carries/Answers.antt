@@ -1,5 +1,4 @@
 -- `value::carries`: each carry from the values of its parts. Assumes nothing.
-use borrow.Author.Rules.{rules}
 use Rattle.operands.proofs.Operands.{AllInRow, all_in_row}
 use Rattle.operands.proofs.Pairs.{carry_lo_lem, carry_hi_lem}
 use Rattle.operands.proofs.value.carries.Goals as goal

@@ -1,15 +1,9 @@
-use borrow.Author.Rules.{rules}
-use borrow.Author.Tests.{ltb-true}
-use mathlib.Core.Path.{◌≡◌, refl}
+use mathlib.Core.Path.{◌≡◌}
 use Prim.Native.Nat.{◌-◌, ◌≤◌, ◌<◌}
-use native.Mathlib.Omega.{arith}
 use lib.ListN.{length, get_or}
 use Rattle.lists.specs.Lists.{at}
 use Rattle.field.specs.Field.{p}
-use Rattle.copy_row.specs.Columns.{COLUMNS}
-use Rattle.operands.specs.Operands.{sum_p, conditions_in_row}
-use Rattle.operands.proofs.Every.{every_at}
-use Rattle.operands.proofs.Sums.{sum_none, sum_next, sum_end}
+use Rattle.operands.specs.Operands.{sum_p}
 use Rattle.operands.proofs.value.condition_sum.Given as goal
 
 abbrev pub invariant-loop-k : goal.invariant-loop-k

@@ -1,5 +1,4 @@
 -- `value::high_value`: by the operand's kind, whose columns and terms are in the row. Assumes nothing.
-use borrow.Author.Rules.{rules}
 use mathlib.Core.Path.{◌∙◌}
 use Prim.Native.Nat.{◌+◌, ◌<◌}
 use native.Mathlib.Omega.{arith}

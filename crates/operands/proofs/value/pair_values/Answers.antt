@@ -1,5 +1,4 @@
 -- `value::pair_values`: the residues from the carries. Assumes nothing.
-use borrow.Author.Rules.{rules}
 use Rattle.operands.proofs.Pairs.{residue_lo_lem, residue_hi_lem}
 use Rattle.operands.proofs.value.pair_values.Goals as goal
 

@@ -1,10 +1,6 @@
 -- `value::terms_value`: the total is the sum of the terms passed. Assumes nothing.
-use borrow.Author.Rules.{rules}
-use mathlib.Core.Path.{◌≡◌}
-use Prim.Native.Nat.{◌-◌, ◌≤◌, ◌<◌}
+use Prim.Native.Nat.{◌-◌}
 use native.Mathlib.Omega.{arith}
-use Rattle.field.specs.Field.{p}
-use Rattle.operands.specs.Operands.{terms_value}
 use Rattle.operands.proofs.Sums.{sum_none, sum_next, sum_end}
 use Rattle.operands.proofs.Operands.{sum_few, sum_term}
 use Rattle.operands.proofs.value.terms_value.Goals as goal

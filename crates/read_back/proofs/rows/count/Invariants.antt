@@ -1,16 +1,8 @@
-use mathlib.Core.Path.{◌≡◌, sym, ap, ◌∙◌}
+use mathlib.Core.Path.{◌≡◌}
 use mathlib.Core.Bool.{true, false}
-use mathlib.Core.List.{List}
-use Prim.Native.Nat.{ℕ, ◌-◌, ◌/◌, ◌≤◌}
-use native.Mathlib.Omega.{arith}
-use borrow.Author.Rules.{rules}
-use lib.ListN.{length}
+use Prim.Native.Nat.{◌-◌, ◌≤◌}
 use Rattle.lists.specs.Lists.{counted}
-use Rattle.lists.specs.Inner.{one_more}
-use Rattle.lists.proofs.Flat.{counted_none, counted_le}
-use Rattle.copy_row.specs.Columns.{COLUMNS}
-use Rattle.chain.proofs.Rows.{row_length}
-use Rattle.read_back.proofs.Walk.{read_at, row_counted, all_counted}
+use Rattle.read_back.proofs.Walk.{read_at}
 use Rattle.read_back.proofs.rows.count.Given as goal
 
 abbrev pub invariant-loop-k : goal.invariant-loop-k

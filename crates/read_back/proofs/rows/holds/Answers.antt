@@ -1,7 +1,6 @@
 -- `rows::holds`: buffers for all rows hold what is read, and of others the counts decide. Assumes nothing.
 use mathlib.Core.Bool.{true, false}
 use native.Mathlib.Omega.{arith}
-use borrow.Author.Rules.{rules}
 use Rattle.read_back.proofs.Walk.{rows_most}
 use Rattle.read_back.proofs.Read.{holds_all, holds_counted}
 use Rattle.read_back.proofs.rows.holds.Goals as goal

@@ -2,7 +2,6 @@
 use mathlib.Core.Path.{sym, ◌∙◌}
 use mathlib.Core.Bool.{false≢true}
 use borrow.Author.Rules.{rules}
-use borrow.Author.Tests.{not-false, not-true}
 use Rattle.row_test.proofs.Columns.{caps_of_fine}
 use Rattle.row_test.proofs.row.is_plain.Goals as goal
 

@@ -2,7 +2,6 @@
 use mathlib.Core.Path.{◌≡◌}
 use mathlib.Core.Logic.{◌↔◌}
 use borrow.Author.Rules.{rules}
-use borrow.Author.Tests.{not-true, not-false}
 use Rattle.copy_residues.specs.RowCheck.{row_fault}
 use Rattle.copy_residues.specs.declared.faults.RowFault.TheVariants.{Fine}
 use Rattle.copy_meaning.specs.Plain.{Plain}

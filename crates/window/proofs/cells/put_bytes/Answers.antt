@@ -1,11 +1,10 @@
 -- `window::cells::put_bytes` meets its contract. The invariant: storing what is left of the values gives all of them stored. Assumes
 -- nothing.
 use borrow.Author.Rules.{rules}
-use mathlib.Core.Path.{◌≡◌, refl, ◌∙◌}
-use Prim.Native.Nat.{◌+◌, ◌-◌, ◌≤◌}
+use mathlib.Core.Path.{refl, ◌∙◌}
+use Prim.Native.Nat.{◌-◌}
 use native.Mathlib.Nat.{add-zero}
-use lib.ListN.{length, take, drop, length-set}
-use Rattle.lists.specs.Lists.{store}
+use lib.ListN.{length-set}
 use Rattle.window.proofs.Window.{write_turn, write_end}
 use Rattle.window.proofs.cells.put_bytes.Goals as goal
 

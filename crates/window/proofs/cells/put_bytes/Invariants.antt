@@ -1,10 +1,7 @@
-use borrow.Author.Rules.{rules}
-use mathlib.Core.Path.{◌≡◌, refl, ◌∙◌}
+use mathlib.Core.Path.{◌≡◌}
 use Prim.Native.Nat.{◌+◌, ◌-◌, ◌≤◌}
-use native.Mathlib.Nat.{add-zero}
-use lib.ListN.{length, take, drop, length-set}
+use lib.ListN.{length, take, drop}
 use Rattle.lists.specs.Lists.{store}
-use Rattle.window.proofs.Window.{write_turn, write_end}
 use Rattle.window.proofs.cells.put_bytes.Given as goal
 
 abbrev pub invariant-loop-i : goal.invariant-loop-i

@@ -1,5 +1,4 @@
 -- `window::cells::write_bytes` meets its contract: both ways are the same write. Assumes nothing.
-use borrow.Author.Rules.{rules}
 use mathlib.Core.Path.{sym, ap, ◌∙◌}
 use Prim.Native.Nat.{ℕ}
 use Rattle.window.specs.Window.{write_bytes}
@@ -7,9 +6,6 @@ use Rattle.window.proofs.cells.write_bytes.Goals as goal
 
 pub returns-then-width-eq8 : goal.returns-then-width-eq8
 returns-then-width-eq8 c =
-    
-    
-    
     let a = c.args in
     c.put_bytes.ensures ∙ ap (λ (n : ℕ). write_bytes a.bytes.now a.at n a.value) (sym c.if-width-eq8.true)
 
