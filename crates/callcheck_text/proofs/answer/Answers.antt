@@ -27,7 +27,7 @@ returns-in_default c =
 pub returns-then-gap-ge4294967296 : goal.returns-then-gap-ge4294967296
 returns-then-gap-ge4294967296 c =
     let line = c.put_refused-then-gap-ge4294967296.ensures in
-    let text = wide_gap _ _ (read_gap c.head.ensures c.parse_gap-first.ensures c.in-Number.is) (omega (arith, c.if-gap-ge4294967296.true)) in
+    let text = wide_gap _ _ (read_gap c.head.ensures c.parse_gap-first.ensures c.in-Number.is) (omega arith) in
     let whole = all_written (wrote line.value.0 line.out_after) text (omega arith) in
     record { answer = whole.0; out = whole.1 }
 
@@ -37,6 +37,6 @@ returns c =
     let gap = c.in-Number.gap in
     let text =
     ap (λ (l : List ℕ). ending_text gap (lines_from (under gap) 2 (lines l) start)) c.tail.ensures
-    ∙ good_gap _ _ (read_gap c.head.ensures c.parse_gap-first.ensures c.in-Number.is) c.if-gap-ge4294967296.false in
+    ∙ good_gap _ _ (read_gap c.head.ensures c.parse_gap-first.ensures c.in-Number.is) (omega arith) in
     let whole = all_written (wrote (line.value.0 ∙ sym (zero-add _)) line.out_after) text (omega arith) in
     record { answer = whole.0; out = whole.1 }
