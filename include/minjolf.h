@@ -1,4 +1,4 @@
-/* The functions of the static library that `rt staticlib exports` makes. docs/CALLING.md says how to link it and what each
+/* The functions of the static library that `tools/build` makes. docs/CALLING.md says how to link it and what each
  * function writes; the refusal numbers are listed there too.
  *
  * A slice is a pointer and its length in elements. The caller's part: every pointer is valid for its length, or for its array's, and

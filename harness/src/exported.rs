@@ -148,7 +148,7 @@ pub fn has(name: &str) -> bool {
 pub fn some() -> Result<(), String> {
     if env!("MINJOLF_EXPORTED").is_empty() {
         return Err(format!(
-            "this harness was built without {ARCHIVE}: run `rt staticlib exports` at the \
+            "this harness was built without {ARCHIVE}: run `tools/build` at the \
              repository's root, then build the harness again"
         ));
     }

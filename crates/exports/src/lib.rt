@@ -1,4 +1,4 @@
-// The functions that a Rust or C program links, by `rt staticlib exports`. Each is thin: it calls the entry that it is named for and hands
+// The functions that a Rust or C program links, by `exports_c`. Each is thin: it calls the entry that it is named for and hands
 // its answer on in numbers. A slice passes as a pointer and a length, an array behind a reference as a pointer. Document 01: "callable
 // from the Rust harness, on numbers and slices". Assumes nothing.
 #![tactic(auto)]

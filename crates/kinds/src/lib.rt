@@ -7,17 +7,16 @@ ghost use Rattle.std.specs.Prelude.{◌≡◌};
 ghost use Rattle.kinds.specs.Kinds.{kind_width, good_of_kind};
 
 use access::{ACCESS_WIDTH, REGISTER_WIDTH, good_access, good_register};
-use call::{ENTRY_WIDTH, HANDED_WIDTH, OP_WIDTH, good_call, good_entry, good_op};
+use call::{HANDED_WIDTH, OP_WIDTH, good_call, good_op};
 
 // One kind for each form of a record: the copy table's; that of the general and the aligned table; the register table's; a call as it is
-// handed in; an entry of rights.
+// handed in.
 #[derive(Clone, Copy)]
 pub enum RecordKind {
     Operation,
     Access,
     Register,
     Call,
-    Entry,
 }
 
 // Numbers in a record.
@@ -29,7 +28,6 @@ pub fn width_of(kind: RecordKind) -> usize
         RecordKind::Access => ACCESS_WIDTH,
         RecordKind::Register => REGISTER_WIDTH,
         RecordKind::Call => HANDED_WIDTH,
-        RecordKind::Entry => ENTRY_WIDTH,
     }
 }
 
@@ -42,6 +40,5 @@ pub fn good_record(kind: RecordKind, op: &[u64]) -> bool
         RecordKind::Access => good_access(op),
         RecordKind::Register => good_register(op),
         RecordKind::Call => good_call(op),
-        RecordKind::Entry => good_entry(op),
     }
 }

@@ -1,13 +1,11 @@
 // Internal to the workspace, not open to callers: the entries judged before any byte is asked about. Assumes nothing but what each
 // `requires` says.
 ghost use Rattle.std.specs.Prelude.{◌≡◌};
-ghost use Rattle.rights.specs.Entries.{past_window};
+ghost use Rattle.rights.specs.Entries.{entry_count, first_bad_entry, past_window};
 ghost use Rattle.rights.specs.Inner.{claim_answer};
 
 use crate::ClaimAnswer;
-use call::{ENTRY_WIDTH, LAST_PARTY};
-use kinds::RecordKind;
-use kinds::judge::first_bad;
+use call::{ENTRY_WIDTH, LAST_PARTY, good_entry};
 use lists::slices::number;
 use records::tables::{record_at, record_count};
 use words::past;
@@ -42,6 +40,21 @@ fn past_window(entries: &[u64], cells: u64) -> bool
     false
 }
 
+// The lowest of the `n` entries that is cut or has a field outside its values, or `n`.
+fn first_bad_entry(entries: &[u64], n: usize) -> usize
+    requires { n ≡ entry_count entries.now }
+    ensures { result ≡ first_bad_entry entries.now }
+{
+    let mut k = 0;
+    while k < n {
+        if !good_entry(record_at(entries, ENTRY_WIDTH, k)) {
+            return k;
+        }
+        k += 1;
+    }
+    k
+}
+
 // The answer for a party and the entries over a window of so many cells: 21, then 10.
 pub fn claim_answer(party: u64, entries: &[u64], cells: u64) -> ClaimAnswer
     ensures { result ≡ claim_answer party entries.now cells }
@@ -56,7 +69,7 @@ pub fn claim_answer(party: u64, entries: &[u64], cells: u64) -> ClaimAnswer
     if LAST_PARTY < party {
         return ClaimAnswer::BadField { place: 0 };
     }
-    let bad = first_bad(RecordKind::Entry, entries, ENTRY_WIDTH, n);
+    let bad = first_bad_entry(entries, n);
     if bad < n {
         return ClaimAnswer::BadField { place: bad };
     }

@@ -12,6 +12,3 @@ returns-in-Register c = rw c.in-Register.is c.good_register.ensures
 
 pub returns-in-Call : goal.returns-in-Call
 returns-in-Call c = rw c.in-Call.is c.good_call.ensures
-
-pub returns-in-Entry : goal.returns-in-Entry
-returns-in-Entry c = rw c.in-Entry.is c.good_entry.ensures

@@ -41,7 +41,7 @@ returns-then-bad-n c =
     let count : c.record_count-n.result ≡ entry_count entries = c.record_count-n.ensures in
     let few : entry_count entries ≤ MOST_ENTRIES = omega (arith, count) in
     let inside : past_window entries cells ≡ false = sym c.past_window.ensures ∙ c.if-past_window.false in
-    let bad = c.first_bad-bad.ensures in
+    let bad = c.first_bad_entry-bad.ensures in
     ap BadField bad ∙ answer_entry party entries cells few inside (omega arith) (omega (arith, bad, count))
 
 pub returns : goal.returns
@@ -52,5 +52,5 @@ returns c =
     let count : c.record_count-n.result ≡ entry_count entries = c.record_count-n.ensures in
     let few : entry_count entries ≤ MOST_ENTRIES = omega (arith, count) in
     let inside : past_window entries cells ≡ false = sym c.past_window.ensures ∙ c.if-past_window.false in
-    let bad = c.first_bad-bad.ensures in
+    let bad = c.first_bad_entry-bad.ensures in
     answer_good party entries cells few inside (omega arith) (omega (arith, bad, count))
