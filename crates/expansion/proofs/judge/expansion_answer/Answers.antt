@@ -33,10 +33,12 @@ n_of c = lengths_are c.args.cells c.args.stamped c.args.ops_room c.args.accesses
 -- what is known once no test but that of the buffers holds
 fair_at : (c : Else-outside) → Fair (s_of c) (c_of c) (n_of c)
 fair_at c =
+    let below : c.args.gap < 4294967296 = omega arith in
+    let not_last : c.args.call.timestamp ≡ 18446744073709551615 → ⊥ = λ e. omega arith in
     passes_fair _ _ _ (
-      lt-leb _ _ c.if-gap-ge4294967296.false,
+      lt-leb _ _ below,
       c.if-cells-stamped.false,
-      ne_eqb _ _ c.if-call-eq18446744073709551615.false,
+      ne_eqb _ _ not_last,
       sym c.not_gap_apart.ensures ∙ c.if-not_gap_apart.false,
       sym c.past_index.ensures ∙ c.if-past_index.false,
       sym c.outside.ensures ∙ c.if-outside.false,
@@ -51,32 +53,43 @@ count_at c = omega (arith, c.requires, count_fits _ _ _ (fair_at c) (small c))
 
 pub returns-then-gap-ge4294967296 : goal.returns-then-gap-ge4294967296
 unfolding answer_by refusals
-returns-then-gap-ge4294967296 c = rw (le-leb _ _ c.if-gap-ge4294967296.true)
+returns-then-gap-ge4294967296 c =
+    let above : 4294967296 ≤ c.args.gap = omega arith in
+    rw (le-leb _ _ above)
 
 pub returns-then-cells-stamped : goal.returns-then-cells-stamped
 unfolding answer_by refusals
 returns-then-cells-stamped c =
-    rw (lt-leb _ _ c.if-gap-ge4294967296.false, c.if-cells-stamped.true)
+    let below : c.args.gap < 4294967296 = omega arith in
+    rw (lt-leb _ _ below, c.if-cells-stamped.true)
 
 pub returns-then-call-eq18446744073709551615 : goal.returns-then-call-eq18446744073709551615
 unfolding answer_by refusals
 returns-then-call-eq18446744073709551615 c =
-    rw (lt-leb _ _ c.if-gap-ge4294967296.false, c.if-cells-stamped.false, eq-eqb _ _ c.if-call-eq18446744073709551615.true)
+    let last : c.args.call.timestamp ≡ 18446744073709551615 = omega arith in
+    let below : c.args.gap < 4294967296 = omega arith in
+    rw (lt-leb _ _ below, c.if-cells-stamped.false, eq-eqb _ _ last)
 
 pub returns-then-not_gap_apart : goal.returns-then-not_gap_apart
 unfolding answer_by refusals
 returns-then-not_gap_apart c =
-    rw (lt-leb _ _ c.if-gap-ge4294967296.false, c.if-cells-stamped.false, ne_eqb _ _ c.if-call-eq18446744073709551615.false, sym c.not_gap_apart.ensures ∙ c.if-not_gap_apart.true)
+    let below : c.args.gap < 4294967296 = omega arith in
+    let not_last : c.args.call.timestamp ≡ 18446744073709551615 → ⊥ = λ e. omega arith in
+    rw (lt-leb _ _ below, c.if-cells-stamped.false, ne_eqb _ _ not_last, sym c.not_gap_apart.ensures ∙ c.if-not_gap_apart.true)
 
 pub returns-then-past_index : goal.returns-then-past_index
 unfolding answer_by refusals
 returns-then-past_index c =
-    rw (lt-leb _ _ c.if-gap-ge4294967296.false, c.if-cells-stamped.false, ne_eqb _ _ c.if-call-eq18446744073709551615.false, sym c.not_gap_apart.ensures ∙ c.if-not_gap_apart.false, sym c.past_index.ensures ∙ c.if-past_index.true)
+    let below : c.args.gap < 4294967296 = omega arith in
+    let not_last : c.args.call.timestamp ≡ 18446744073709551615 → ⊥ = λ e. omega arith in
+    rw (lt-leb _ _ below, c.if-cells-stamped.false, ne_eqb _ _ not_last, sym c.not_gap_apart.ensures ∙ c.if-not_gap_apart.false, sym c.past_index.ensures ∙ c.if-past_index.true)
 
 pub returns-then-outside : goal.returns-then-outside
 unfolding answer_by refusals
 returns-then-outside c =
-    rw (lt-leb _ _ c.if-gap-ge4294967296.false, c.if-cells-stamped.false, ne_eqb _ _ c.if-call-eq18446744073709551615.false, sym c.not_gap_apart.ensures ∙ c.if-not_gap_apart.false, sym c.past_index.ensures ∙ c.if-past_index.false, sym c.outside.ensures ∙ c.if-outside.true)
+    let below : c.args.gap < 4294967296 = omega arith in
+    let not_last : c.args.call.timestamp ≡ 18446744073709551615 → ⊥ = λ e. omega arith in
+    rw (lt-leb _ _ below, c.if-cells-stamped.false, ne_eqb _ _ not_last, sym c.not_gap_apart.ensures ∙ c.if-not_gap_apart.false, sym c.past_index.ensures ∙ c.if-past_index.false, sym c.outside.ensures ∙ c.if-outside.true)
 
 pub row_count-rows-requires : goal.row_count-rows-requires
 row_count-rows-requires c =
