@@ -48,8 +48,7 @@ pub fn record_width(t: AccessTable) -> usize
     ensures { result ≡ record_width t }
 {
     match t {
-        AccessTable::General => ACCESS_WIDTH,
-        AccessTable::Aligned => ACCESS_WIDTH,
+        AccessTable::General | AccessTable::Aligned => ACCESS_WIDTH,
         AccessTable::Register => REGISTER_WIDTH,
     }
 }
@@ -88,14 +87,11 @@ const ACCESS_LIMITS: [u64; 29] = [
 ];
 
 // Whether `op` is an access record: whole, and each field among its values.
+#[tactic(auto, using(records::proofs::Records::within_length), unfolding(crate::specs::Access::good_access, crate::specs::Access::access_limits))]
 pub fn good_access(op: &[u64]) -> bool
     ensures { result ≡ good_access op.now }
 {
-    let limits = ACCESS_LIMITS;
-    if !within_limits(op, &limits) {
-        return false;
-    }
-    is_width(op[WIDTH])
+    within_limits(op, &ACCESS_LIMITS) && is_width(op[WIDTH])
 }
 
 // The largest value of each number of a record of the register table.
@@ -111,11 +107,11 @@ const REGISTER_LIMITS: [u64; 8] = [
 ];
 
 // Whether `op` is a record of the register table: whole, and each field among its values.
+#[tactic(auto, unfolding(crate::specs::RegisterRecord::register_limits))]
 pub fn good_register(op: &[u64]) -> bool
     ensures { result ≡ good_register op.now }
 {
-    let limits = REGISTER_LIMITS;
-    within_limits(op, &limits)
+    within_limits(op, &REGISTER_LIMITS)
 }
 
 // The record of an access of a register: `address` is twice its number, and `value` and `old` are its words.

@@ -1,34 +1,27 @@
--- The answer of `add_pair` and its lent array, case by case. Assumes nothing.
-use mathlib.Core.Path.{◌≡◌, sym, ap, ◌∙◌}
-use mathlib.Core.Bool.{Bool, true, false, ◌&&◌}
-use mathlib.Core.List.{List}
-use Prim.Native.Nat.{ℕ}
+-- What `add_pair` has to show: of a list that is no operand, and of three operands. Assumes nothing.
+use Rattle.std.proofs.Common.{◌≡◌, true, false, ◌&&◌, List, ℕ, ◌∙◌, ap}
+use Rattle.std.specs.Prelude.{Result}
+use Rattle.answer.specs.Numbers.{refused}
 use Rattle.operands.specs.declared.AddOperand.{AddOperand}
 use Rattle.add_pair.specs.Flat.{flat_operand}
-use Rattle.add_pair.specs.Answers.{is_operand, operands_answer, add_pair_answer, add_pair_after, pair_numbers_of, out_after}
-use Rattle.add_pair.specs.declared.AddPairAnswer.{AddPairAnswer}
-use Rattle.add_pair.specs.declared.AddPairAnswer.TheVariants.{Malformed}
+use Rattle.add_pair.specs.Answers.{is_operand, operands_answer, add_pair_answer, add_pair_after, add_pair_numbers, pair_numbers_of, out_after, AddPairDone}
+use Rattle.add_pair.specs.declared.AddPairRefusal.{AddPairRefusal}
 
-module _ (lhs rhs sum conditions row : List ℕ) {formed : Bool} (e : formed ≡ (is_operand lhs && is_operand rhs && is_operand sum)) where
-  -- a list that is no operand
-  pub malformed : formed ≡ false → Malformed ≡ add_pair_answer lhs rhs sum conditions row
-  unfolding add_pair_answer
-  malformed f = simp (sym e ∙ f)
+module _ (lhs rhs sum conditions row out : List ℕ) where
+  pub malformed : (is_operand lhs && is_operand rhs && is_operand sum) ≡ false → AddPairDone lhs rhs sum conditions row out (refused 10 0) out
+  unfolding add_pair_answer add_pair_after out_after
+  malformed e = record { answer = simp e; written = simp e }
 
-  pub malformed_out : formed ≡ false → (out : List ℕ) → out ≡ add_pair_after lhs rhs sum conditions row out
-  unfolding add_pair_after out_after
-  malformed_out f out =
-      ap (λ a. out_after a (pair_numbers_of (flat_operand lhs) (flat_operand rhs) (flat_operand sum) conditions row) out) (malformed f)
-
-  -- three operands
-  module _ (f : formed ≡ true)
-      {a b c : AddOperand} (x : a ≡ flat_operand lhs) (y : b ≡ flat_operand rhs) (z : c ≡ flat_operand sum)
-      {r : AddPairAnswer} (g : r ≡ operands_answer a b c conditions row) where
-    pub answered : r ≡ add_pair_answer lhs rhs sum conditions row
-    unfolding add_pair_answer
-    answered = simp (sym e ∙ f) (g ∙ (λ i. operands_answer (x i) (y i) (z i) conditions row))
-
-    pub answered_out : (out : List ℕ) {after : List ℕ} → after ≡ out_after r (pair_numbers_of a b c conditions row) out
-        → after ≡ add_pair_after lhs rhs sum conditions row out
-    unfolding add_pair_after
-    answered_out out h = h ∙ (λ i. out_after (answered i) (pair_numbers_of (x i) (y i) (z i) conditions row) out)
+  pub answered : is_operand lhs ≡ true → is_operand rhs ≡ true → is_operand sum ≡ true
+      → {a b c : AddOperand} → a ≡ flat_operand lhs → b ≡ flat_operand rhs → c ≡ flat_operand sum
+      → {r : Result (Unit {0}) AddPairRefusal} → r ≡ operands_answer a b c conditions row
+      → {after : List ℕ} → after ≡ out_after r (pair_numbers_of a b c conditions row) out
+      → AddPairDone lhs rhs sum conditions row out (add_pair_numbers r) after
+  unfolding add_pair_answer add_pair_after
+  answered p q s x y z e f =
+      record {
+        answer = simp (p, q, s) (ap add_pair_numbers (e ∙ (λ i. operands_answer (x i) (y i) (z i) conditions row)));
+        written =
+            simp (p, q, s)
+            (f ∙ (λ i. out_after ((e ∙ (λ j. operands_answer (x j) (y j) (z j) conditions row)) i) (pair_numbers_of (x i) (y i) (z i) conditions row) out));
+      }

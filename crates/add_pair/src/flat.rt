@@ -1,138 +1,107 @@
 // Reading a flat operand: first its form, by a walk that never leaves the list, then its terms. Every function here is total: what a list
 // does not have reads as 0. Assumes nothing.
-ghost use Rattle.std.specs.Prelude.{◌≡◌};
+ghost use Rattle.std.specs.Prelude.{◌≡◌, true, false, Some, MatchOption};
 ghost use Rattle.operands.specs.Constructors.{dword};
 ghost use Rattle.add_pair.specs.Flat.{after_term, after_terms, after_sum, is_end, sums_form, flat_form};
-ghost use Rattle.add_pair.specs.Flat.{signed_of, term_from, term_after, term_of, four_terms, operand_of};
-ghost use Rattle.add_pair.specs.Answers.{is_form};
-ghost use Rattle.add_pair.specs.declared.Walk.TheVariants.{At};
+ghost use Rattle.add_pair.specs.Flat.{signed_of, term_from, term_of, four_terms, operand_of, flat_operand};
+ghost use Rattle.add_pair.specs.Answers.{is_operand};
 
-use crate::{FlatForm, Walk};
+use crate::FlatForm;
 use lists::slices::number;
-use operands::{AddLinearTerm, AddOperand, OperandKind, TermCell};
+use operands::{AddLinearTerm, AddOperand, OperandKind};
 
 // Where the term at index i ends: two numbers on, or three, by its tag.
-fn after_term(list: &[u64], i: usize) -> Walk
-    ensures { result ≡ after_term list.now (At i) }
+#[tactic(auto, unfolding(crate::specs::Flat::after_term))]
+fn after_term(list: &[u64], i: usize) -> Option<usize>
+    ensures { result ≡ after_term list.now (Some i) }
 {
     if list.len() <= i {
-        return Walk::Malformed;
+        return None;
     }
     let tag = list[i];
     if 1 < tag {
-        return Walk::Malformed;
+        return None;
     }
     let width = 2 + tag as usize;
     if list.len() - i < width {
-        return Walk::Malformed;
+        return None;
     }
-    Walk::At(i + width)
+    Some(i + width)
 }
 
 // Where the n terms from index `start` on end. The list ends long before a count that is too large for it.
-fn after_terms(list: &[u64], start: usize, n: u64) -> Walk
-    ensures { result ≡ after_terms list.now (At start) n }
+fn after_terms(list: &[u64], start: usize, n: u64) -> Option<usize>
+    ensures { result ≡ after_terms list.now (Some start) n }
 {
     let mut i = start;
-    let mut k: u64 = 0;
-    while k < n {
-        let next = after_term(list, i);
-        let Walk::At(end) = next else {
-            return Walk::Malformed;
-        };
-        i = end;
-        k += 1;
+    for _ in 0..n {
+        i = after_term(list, i)?;
     }
-    Walk::At(i)
+    Some(i)
 }
 
-// Where the sum at a place ends.
-fn after_sum(list: &[u64], place: Walk) -> Walk
-    ensures { result ≡ after_sum list.now place }
+// Where the sum at index i ends.
+#[tactic(auto, unfolding(crate::specs::Flat::after_sum))]
+fn after_sum(list: &[u64], i: usize) -> Option<usize>
+    ensures { result ≡ after_sum list.now (Some i) }
 {
-    let Walk::At(i) = place else {
-        return Walk::Malformed;
-    };
     if list.len() <= i {
-        return Walk::Malformed;
+        return None;
     }
     after_terms(list, i + 1, list[i])
 }
 
 // Whether a place is the end of the list.
-fn is_end(list: &[u64], place: Walk) -> bool
+#[tactic(auto, unfolding(crate::specs::Flat::is_end))]
+fn is_end(list: &[u64], place: Option<usize>) -> bool
     ensures { result ≡ is_end list.now place }
 {
-    let Walk::At(i) = place else {
+    let Some(i) = place else {
         return false;
     };
     i == list.len()
 }
 
-// A low sum at index 1, a high sum at a place, and nothing after it.
-fn sums_form(list: &[u64], place: Walk) -> FlatForm
-    ensures { result ≡ sums_form list.now place }
+// A low sum at index 1, a high sum at index i, and nothing after it.
+#[tactic(auto, unfolding(crate::specs::Flat::sums_form, crate::specs::Flat::after_sum, crate::specs::Flat::is_end))]
+fn sums_form(list: &[u64], i: usize) -> Option<FlatForm>
+    ensures { result ≡ sums_form list.now (Some i) }
 {
-    let Walk::At(i) = place else {
-        return FlatForm::Malformed;
-    };
-    if list.len() <= i {
-        return FlatForm::Malformed;
+    if list.len() <= i || !is_end(list, after_sum(list, i)) {
+        return None;
     }
-    if is_end(list, after_sum(list, Walk::At(i))) {
-        return FlatForm::Sums {
-            low: number(list, 1),
-            high: list[i],
-            start: i + 1,
-        };
-    }
-    FlatForm::Malformed
+    Some(FlatForm::Sums {
+        low: number(list, 1),
+        high: list[i],
+        start: i + 1,
+    })
 }
 
 // What a list is.
-pub fn flat_form(list: &[u64]) -> FlatForm
+#[tactic(auto, unfolding(crate::specs::Flat::flat_form, crate::specs::Flat::sums_form))]
+fn flat_form(list: &[u64]) -> Option<FlatForm>
     ensures { result ≡ flat_form list.now }
 {
     let tag = number(list, 0);
-    if tag == 0 {
-        if list.len() == 2 {
-            return FlatForm::Words { column: list[1] };
-        }
-        return FlatForm::Malformed;
+    if tag == 0 && list.len() == 2 {
+        return Some(FlatForm::Words { column: list[1] });
     }
     if tag == 1 {
-        return sums_form(list, after_sum(list, Walk::At(1)));
+        return sums_form(list, after_sum(list, 1)?);
     }
-    FlatForm::Malformed
-}
-
-// Whether a form is one of the two.
-pub fn is_form(form: FlatForm) -> bool
-    ensures { result ≡ is_form form }
-{
-    match form {
-        FlatForm::Words { column: _ } => true,
-        FlatForm::Sums {
-            low: _,
-            high: _,
-            start: _,
-        } => true,
-        FlatForm::Malformed => false,
-    }
+    None
 }
 
 // The signed number of a two's complement.
+#[tactic(auto, unfolding(crate::specs::Flat::signed_of))]
 fn signed(bits: u64) -> i64
     ensures { result ≡ signed_of bits }
 {
-    if bits < 0x8000_0000_0000_0000 {
-        bits as i64
-    } else {
-        !((!bits) as i64)
-    }
+    bits.cast_signed()
 }
 
 // The term at index i.
+#[tactic(auto, unfolding(crate::specs::Flat::term_from, crate::specs::Flat::signed_of), using(lists::proofs::Numbers::past))]
 fn term_from(list: &[u64], i: usize) -> AddLinearTerm
     ensures { result ≡ term_from list.now i }
 {
@@ -143,59 +112,44 @@ fn term_from(list: &[u64], i: usize) -> AddLinearTerm
     if list[i] == 0 {
         return AddLinearTerm::Constant(value);
     }
-    let column = number(list, i + 2) as usize;
     AddLinearTerm::Column {
         coefficient: value,
-        column,
+        column: number(list, i + 2) as usize,
     }
 }
 
-// The term at a place.
-fn term_after(list: &[u64], place: Walk) -> AddLinearTerm
-    ensures { result ≡ term_after list.now place }
-{
-    let Walk::At(i) = place else {
-        return AddLinearTerm::Constant(0);
-    };
-    term_from(list, i)
-}
-
 // Term k of the n terms from index i on; the constant 0 fills the places of terms that a sum does not have.
+#[tactic(auto, unfolding(crate::specs::Flat::term_of, crate::specs::Flat::term_after))]
 fn term_of(list: &[u64], i: usize, n: u64, k: u64) -> AddLinearTerm
     ensures { result ≡ term_of list.now i n k }
 {
     if k < n {
-        return term_after(list, after_terms(list, i, k));
+        if let Some(start) = after_terms(list, i, k) {
+            return term_from(list, start);
+        }
     }
     AddLinearTerm::Constant(0)
 }
 
 // The first four of them.
-fn four_terms(list: &[u64], i: usize, n: u64) -> [TermCell; 4]
+#[tactic(auto, unfolding(crate::specs::Flat::four_terms))]
+fn four_terms(list: &[u64], i: usize, n: u64) -> [AddLinearTerm; 4]
     ensures { result ≡ four_terms list.now i n }
 {
-    let a = TermCell {
-        term: term_of(list, i, n, 0),
-    };
-    let b = TermCell {
-        term: term_of(list, i, n, 1),
-    };
-    let c = TermCell {
-        term: term_of(list, i, n, 2),
-    };
-    let d = TermCell {
-        term: term_of(list, i, n, 3),
-    };
-    [a, b, c, d]
+    [
+        term_of(list, i, n, 0),
+        term_of(list, i, n, 1),
+        term_of(list, i, n, 2),
+        term_of(list, i, n, 3),
+    ]
 }
 
 // Two neighbouring columns: an operand without terms.
+#[tactic(auto, unfolding(operands::specs::Constructors::dword, operands::specs::Constructors::cells))]
 fn words_operand(column: usize) -> AddOperand
     ensures { result ≡ dword column }
 {
-    let none = [TermCell {
-        term: AddLinearTerm::Constant(0),
-    }; 4];
+    let none = [AddLinearTerm::Constant(0); 4];
     AddOperand {
         kind: OperandKind::Words { column },
         low: none,
@@ -204,23 +158,29 @@ fn words_operand(column: usize) -> AddOperand
 }
 
 // The operand of a list, by the list's form.
-pub fn operand_of(list: &[u64], form: FlatForm) -> AddOperand
-    ensures { result ≡ operand_of list.now form }
+#[tactic(auto, unfolding(crate::specs::Flat::operand_of))]
+fn operand_of(list: &[u64], form: FlatForm) -> AddOperand
+    ensures { result ≡ operand_of list.now (Some form) }
 {
     match form {
         FlatForm::Words { column } => words_operand(column as usize),
-        FlatForm::Sums { low, high, start } => {
-            let low_terms = four_terms(list, 2, low);
-            let high_terms = four_terms(list, start, high);
-            AddOperand {
-                kind: OperandKind::Sums {
-                    low: low as usize,
-                    high: high as usize,
-                },
-                low: low_terms,
-                high: high_terms,
-            }
-        }
-        FlatForm::Malformed => words_operand(0),
+        FlatForm::Sums { low, high, start } => AddOperand {
+            kind: OperandKind::Sums {
+                low: low as usize,
+                high: high as usize,
+            },
+            low: four_terms(list, 2, low),
+            high: four_terms(list, start, high),
+        },
     }
+}
+
+// The operand of a list that is one.
+#[tactic(auto, unfolding(crate::specs::Answers::is_form))]
+pub fn flat_operand(list: &[u64]) -> Option<AddOperand>
+    ensures { MatchOption result (is_operand list.now ≡ false)
+        (λ o. (is_operand list.now ≡ true) × (o ≡ flat_operand list.now)) }
+{
+    let form = flat_form(list)?;
+    Some(operand_of(list, form))
 }

@@ -4,42 +4,64 @@
 
 mod flat;
 
-ghost use Rattle.std.specs.Prelude.{◌≡◌};
-ghost use Rattle.add_pair.specs.Answers.{operands_answer, pair_numbers_of, out_after, add_pair_numbers, AddPairDone};
+ghost use Rattle.std.specs.Prelude.{◌≡◌, true, false, MatchResult};
+ghost use Rattle.add_pair.specs.Flat.{flat_operand};
+ghost use Rattle.add_pair.specs.Answers.{is_operand, operands_answer, pair_numbers_of, out_after, add_pair_refusal_numbers, add_pair_numbers, AddPairDone};
+ghost use Rattle.add_pair.specs.declared.AddPairRefusal.TheVariants.{Malformed, Row};
 
-use answer::{Answer, accept, refuse};
-use field::rows::{RowRefusal, RowVerdict, row_refusal_numbers};
-use flat::{flat_form, is_form, operand_of};
+use answer::{Answer, refuse};
+use field::rows::RowRefusal;
+use flat::flat_operand;
 use operands::AddOperand;
-use operands::judge::pair_verdict;
+use operands::judge::pair_row;
 use operands::value::pair_values;
 
-// Where reading a flat list stands.
-#[derive(Clone, Copy)]
-pub enum Walk {
-    At(usize),
-    Malformed,
-}
-
-// What a flat list is: two neighbouring columns; two sums, with their numbers of terms and the index of the first high term; or neither.
+// What a flat operand is: two neighbouring columns; or two sums, with their numbers of terms and the index of the first high term.
 #[derive(Clone, Copy)]
 pub enum FlatForm {
     Words { column: u64 },
     Sums { low: u64, high: u64, start: usize },
-    Malformed,
 }
 
-// Three numbers were written, or a refusal.
+// Why no numbers are written.
 #[derive(Clone, Copy)]
-pub enum AddPairAnswer {
-    Written,
+pub enum AddPairRefusal {
     // 10: a list that is no flat operand
     Malformed,
     // 12, 13, 14
-    Refused { why: RowRefusal },
+    Row { why: RowRefusal },
+}
+
+impl From<RowRefusal> for AddPairRefusal {
+    ghost from_gives = { λ why refusal. refusal ≡ Row why };
+
+    fn from(why: RowRefusal) -> AddPairRefusal {
+        AddPairRefusal::Row { why }
+    }
+}
+
+// Document 01's number, place and value of a refusal.
+impl From<AddPairRefusal> for Answer {
+    ghost from_gives = { λ why a. a ≡ add_pair_refusal_numbers why };
+
+    fn from(why: AddPairRefusal) -> Answer {
+        match why {
+            AddPairRefusal::Malformed => refuse(10, 0),
+            AddPairRefusal::Row { why } => why.into(),
+        }
+    }
+}
+
+// The operand of a flat list, or 10.
+fn operand(list: &[u64]) -> Result<AddOperand, AddPairRefusal>
+    ensures { MatchResult result (λ o. (is_operand list.now ≡ true) × (o ≡ flat_operand list.now))
+        (λ why. (is_operand list.now ≡ false) × (why ≡ Malformed)) }
+{
+    flat_operand(list).ok_or(AddPairRefusal::Malformed)
 }
 
 // The two residues and the high carry of lhs + rhs = sum, for operands that were read.
+#[tactic(auto, unfolding(crate::specs::Answers::operands_answer, crate::specs::Answers::out_after, crate::specs::Answers::pair_numbers_of))]
 fn operands_pair(
     lhs: AddOperand,
     rhs: AddOperand,
@@ -47,19 +69,15 @@ fn operands_pair(
     conditions: &[u64],
     row: &[u64],
     out: &mut [u64; 3],
-) -> AddPairAnswer
+) -> Result<(), AddPairRefusal>
     ensures answer { result ≡ operands_answer lhs rhs sum conditions.now row.now }
     ensures out { out.new
         ≡ out_after result (pair_numbers_of lhs rhs sum conditions.now row.now) out.old }
 {
-    match pair_verdict(conditions, lhs, rhs, sum, row) {
-        RowVerdict::Fine => {
-            let values = pair_values(conditions, lhs, rhs, sum, row);
-            *out = [values.low, values.high, values.carry];
-            AddPairAnswer::Written
-        }
-        RowVerdict::Refused { why } => AddPairAnswer::Refused { why },
-    }
+    let row = pair_row(conditions, lhs, rhs, sum, row)?;
+    let values = pair_values(conditions, lhs, rhs, sum, row);
+    *out = [values.low.value, values.high.value, values.carry.value];
+    Ok(())
 }
 
 // The same for flat operands.
@@ -70,33 +88,19 @@ pub fn add_pair(
     conditions: &[u64],
     row: &[u64],
     out: &mut [u64; 3],
-) -> AddPairAnswer
+) -> Result<(), AddPairRefusal>
     ensures { AddPairDone lhs.now rhs.now sum.now conditions.now row.now
         out.old (add_pair_numbers result) out.new }
 {
-    let lhs_form = flat_form(lhs);
-    let rhs_form = flat_form(rhs);
-    let sum_form = flat_form(sum);
-    if !(is_form(lhs_form) & is_form(rhs_form) & is_form(sum_form)) {
-        return AddPairAnswer::Malformed;
-    }
-    operands_pair(
-        operand_of(lhs, lhs_form),
-        operand_of(rhs, rhs_form),
-        operand_of(sum, sum_form),
-        conditions,
-        row,
-        out,
-    )
+    let lhs = operand(lhs)?;
+    let rhs = operand(rhs)?;
+    let sum = operand(sum)?;
+    operands_pair(lhs, rhs, sum, conditions, row, out)
 }
 
 // Document 01's number, place and value of an answer.
-pub fn numbers(a: AddPairAnswer) -> Answer
-    ensures { result ≡ add_pair_numbers a }
+pub fn numbers(found: Result<(), AddPairRefusal>) -> Answer
+    ensures { result ≡ add_pair_numbers found }
 {
-    match a {
-        AddPairAnswer::Written => accept(0),
-        AddPairAnswer::Malformed => refuse(10, 0),
-        AddPairAnswer::Refused { why } => row_refusal_numbers(why),
-    }
+    answer::numbers(found.map(|()| 0))
 }

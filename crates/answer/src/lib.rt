@@ -2,7 +2,7 @@
 // number, its place and a value. Assumes nothing.
 #![tactic(auto)]
 
-ghost use Rattle.std.specs.Prelude.{◌≡◌};
+ghost use Rattle.std.specs.Prelude.{◌≡◌, ℕ, Ok, Err};
 ghost use Rattle.answer.specs.Numbers.{accepted, refused};
 
 // `number` is 0 on success, else the refusal's number; `place` is the refusal's place, and 0 on success; `value` is
@@ -34,5 +34,16 @@ pub fn refuse(number: u64, place: u64) -> Answer
         number,
         place,
         value: 0,
+    }
+}
+
+// The numbers of a result: what was found, or those of the refusal.
+pub fn numbers<E: Into<Answer>>(found: Result<u64, E>) -> Answer
+    ensures ok { (v : ℕ) → found ≡ Ok v → result ≡ accepted v }
+    ensures err { (e : E) → found ≡ Err e → E.Into.converts e result }
+{
+    match found {
+        Ok(value) => accept(value),
+        Err(why) => why.into(),
     }
 }

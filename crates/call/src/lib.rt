@@ -33,13 +33,15 @@ pub struct CopyCall {
 }
 
 // The number of a kind.
-pub fn kind_number(kind: Functionality) -> u64
-    ensures { result ≡ kind_number kind }
-{
-    match kind {
-        Functionality::Copy => 0,
-        Functionality::Set => 1,
-        Functionality::Write => 2,
+impl From<Functionality> for u64 {
+    ghost from_gives = { λ kind number. number ≡ kind_number kind };
+
+    fn from(kind: Functionality) -> u64 {
+        match kind {
+            Functionality::Copy => 0,
+            Functionality::Set => 1,
+            Functionality::Write => 2,
+        }
     }
 }
 
@@ -54,13 +56,11 @@ pub fn no_kind(kind: u64) -> bool
 pub fn kind_of(kind: u64) -> Functionality
     ensures { result ≡ kind_of kind }
 {
-    if kind == 0 {
-        return Functionality::Copy;
+    match kind {
+        0 => Functionality::Copy,
+        1 => Functionality::Set,
+        _ => Functionality::Write,
     }
-    if kind == 1 {
-        return Functionality::Set;
-    }
-    Functionality::Write
 }
 
 // Numbers in an operation record.
@@ -68,10 +68,10 @@ pub const OP_WIDTH: usize = 16;
 
 // The largest value of each number of an operation record.
 const OP_LIMITS: [u64; 16] = [
-    0xffff_ffff_ffff_ffff,
-    0xffff_ffff_ffff_ffff,
-    0xffff_ffff_ffff_ffff,
-    0xffff_ffff_ffff_ffff,
+    u64::MAX,
+    u64::MAX,
+    u64::MAX,
+    u64::MAX,
     255,
     1,
     1,
@@ -87,11 +87,11 @@ const OP_LIMITS: [u64; 16] = [
 ];
 
 // Whether an operation record is whole and each field is among its values.
+#[tactic(auto, unfolding(crate::specs::Ops::op_limits))]
 pub fn good_op(op: &[u64]) -> bool
     ensures { result ≡ good_op op.now }
 {
-    let limits = OP_LIMITS;
-    within_limits(op, &limits)
+    within_limits(op, &OP_LIMITS)
 }
 
 // Numbers in a call as read-back writes it, and as it is handed in.
@@ -103,32 +103,26 @@ pub const HANDED_WIDTH: usize = 5;
 pub const LAST_PARTY: u64 = 15;
 
 // The largest value of each number of a call that is handed in.
-const CALL_LIMITS: [u64; 5] = [
-    2,
-    0xffff_ffff_ffff_ffff,
-    0xffff_ffff_ffff_ffff,
-    0xffff_ffff_ffff_ffff,
-    0xffff_ffff_ffff_ffff,
-];
+const CALL_LIMITS: [u64; 5] = [2, u64::MAX, u64::MAX, u64::MAX, u64::MAX];
 
 // Whether a record is a whole call and each field is among its values.
+#[tactic(auto, unfolding(crate::specs::Flat::call_limits))]
 pub fn good_call(call: &[u64]) -> bool
     ensures { result ≡ good_call call.now }
 {
-    let limits = CALL_LIMITS;
-    within_limits(call, &limits)
+    within_limits(call, &CALL_LIMITS)
 }
 
 // Numbers in an entry, which says what a party may do with some bytes: party, start, length, may read, may write.
 pub const ENTRY_WIDTH: usize = 5;
 
 // The largest value of each of them.
-const ENTRY_LIMITS: [u64; 5] = [15, 0xffff_ffff_ffff_ffff, 0xffff_ffff_ffff_ffff, 1, 1];
+const ENTRY_LIMITS: [u64; 5] = [15, u64::MAX, u64::MAX, 1, 1];
 
 // Whether a record is a whole entry and each field is among its values.
+#[tactic(auto, unfolding(crate::specs::Entries::entry_limits))]
 pub fn good_entry(entry: &[u64]) -> bool
     ensures { result ≡ good_entry entry.now }
 {
-    let limits = ENTRY_LIMITS;
-    within_limits(entry, &limits)
+    within_limits(entry, &ENTRY_LIMITS)
 }

@@ -1,33 +1,34 @@
 -- The answer of the join, case by case, and what one that is no refusal says of both lists. Assumes nothing.
-use mathlib.Core.Path.{◌≡◌, refl}
-use mathlib.Core.Bool.{Bool, true, false, cond}
+use mathlib.Core.Path.{◌≡◌, refl, sym}
+use mathlib.Core.Bool.{Bool, true, false, cond, true≢false}
 use mathlib.Core.List.{List}
 use Prim.Native.Nat.{ℕ, ◌+◌, ◌*◌, ◌≤◌, ◌<◌}
+use Rattle.std.specs.Prelude.{Ok, Err}
+use Rattle.std.specs.Result.{IsErr}
 use native.Mathlib.Omega.{arith}
 use borrow.Author.Tests.{lt-ltb, le-ltb, ltb-false, le-leb, lt-leb, leb-true}
 use lib.Dec.{ltb, leb}
 use Rattle.call.specs.Flat.{HANDED_WIDTH}
-use Rattle.call_join.specs.Join.{call_count, first_bad_call, first_below, join_answer, joined_after}
-use Rattle.call_join.specs.declared.JoinAnswer.{JoinAnswer}
-use Rattle.call_join.specs.declared.JoinAnswer.TheVariants.{Joined, TooManyRecords, BadRecord, OutOfOrder, BufferShort}
+use Rattle.call_join.specs.Join.{call_count, first_bad_call, first_below, JoinAnswer, join_answer, joined_after}
+use Rattle.call_join.specs.declared.JoinRefusal.TheVariants.{TooManyRecords, BadRecord, OutOfOrder, BufferShort}
 
 module _ (limit : ℕ) (first second : List ℕ) (room : ℕ) where
-  pub over_first : limit < call_count first → TooManyRecords ≡ join_answer limit first second room
+  pub over_first : limit < call_count first → Err TooManyRecords ≡ join_answer limit first second room
   unfolding join_answer
   over_first h = rw (lt-ltb limit (call_count first) h)
 
-  pub over_second : call_count first ≤ limit → limit < call_count second → TooManyRecords ≡ join_answer limit first second room
+  pub over_second : call_count first ≤ limit → limit < call_count second → Err TooManyRecords ≡ join_answer limit first second room
   unfolding join_answer
   over_second a h = rw (le-ltb limit (call_count first) a, lt-ltb limit (call_count second) h)
 
   -- neither list is too long
   module _ (a : call_count first ≤ limit) (b : call_count second ≤ limit) where
-    pub bad_first : first_bad_call first < call_count first → BadRecord (first_bad_call first) ≡ join_answer limit first second room
+    pub bad_first : first_bad_call first < call_count first → Err (BadRecord (first_bad_call first)) ≡ join_answer limit first second room
     unfolding join_answer
     bad_first h = rw (le-ltb limit (call_count first) a, le-ltb limit (call_count second) b, lt-ltb (first_bad_call first) (call_count first) h)
 
     pub bad_second : call_count first ≤ first_bad_call first → first_bad_call second < call_count second
-        → BadRecord (first_bad_call second) ≡ join_answer limit first second room
+        → Err (BadRecord (first_bad_call second)) ≡ join_answer limit first second room
     unfolding join_answer
     bad_second c h =
         rw (
@@ -40,9 +41,9 @@ module _ (limit : ℕ) (first second : List ℕ) (room : ℕ) where
     -- and all calls are good
     module _ (c : call_count first ≤ first_bad_call first) (d : call_count second ≤ first_bad_call second) where
       judged : join_answer limit first second room
-          ≡ cond (ltb (first_below first) (call_count first)) (OutOfOrder (first_below first))
-          (cond (ltb (first_below second) (call_count second)) (OutOfOrder (first_below second))
-          (cond (leb (HANDED_WIDTH * (call_count first + call_count second)) room) (Joined (call_count first + call_count second)) BufferShort))
+          ≡ cond (ltb (first_below first) (call_count first)) (Err (OutOfOrder (first_below first)))
+          (cond (ltb (first_below second) (call_count second)) (Err (OutOfOrder (first_below second)))
+          (cond (leb (HANDED_WIDTH * (call_count first + call_count second)) room) (Ok (call_count first + call_count second)) (Err BufferShort)))
       unfolding join_answer
       judged =
           rw (
@@ -52,17 +53,17 @@ module _ (limit : ℕ) (first second : List ℕ) (room : ℕ) where
             le-ltb (first_bad_call second) (call_count second) d,
           )
 
-      pub below_first : first_below first < call_count first → OutOfOrder (first_below first) ≡ join_answer limit first second room
+      pub below_first : first_below first < call_count first → Err (OutOfOrder (first_below first)) ≡ join_answer limit first second room
       below_first h = rw (judged, lt-ltb (first_below first) (call_count first) h)
 
       pub below_second : call_count first ≤ first_below first → first_below second < call_count second
-          → OutOfOrder (first_below second) ≡ join_answer limit first second room
+          → Err (OutOfOrder (first_below second)) ≡ join_answer limit first second room
       below_second e h = rw (judged, le-ltb (first_below first) (call_count first) e, lt-ltb (first_below second) (call_count second) h)
 
       -- and both are in order
       module _ (e : call_count first ≤ first_below first) (f : call_count second ≤ first_below second) where
         pub joined_fits : HANDED_WIDTH * (call_count first + call_count second) ≤ room
-            → Joined (call_count first + call_count second) ≡ join_answer limit first second room
+            → Ok (call_count first + call_count second) ≡ join_answer limit first second room
         joined_fits h =
             rw (
               judged,
@@ -71,7 +72,7 @@ module _ (limit : ℕ) (first second : List ℕ) (room : ℕ) where
               le-leb (HANDED_WIDTH * (call_count first + call_count second)) room h,
             )
 
-        pub joined_short : room < HANDED_WIDTH * (call_count first + call_count second) → BufferShort ≡ join_answer limit first second room
+        pub joined_short : room < HANDED_WIDTH * (call_count first + call_count second) → Err BufferShort ≡ join_answer limit first second room
         joined_short h =
             rw (
               judged,
@@ -91,7 +92,7 @@ module _ (limit : ℕ) (first second : List ℕ) (room : ℕ) where
     pub counted : calls ≡ call_count first + call_count second
     pub fits : HANDED_WIDTH * (call_count first + call_count second) ≤ room
 
-  pub joined_facts : (calls : ℕ) → join_answer limit first second room ≡ Joined calls → JoinedFacts calls
+  pub joined_facts : (calls : ℕ) → join_answer limit first second room ≡ Ok calls → JoinedFacts calls
   unfolding join_answer
   joined_facts calls e = step _ _ _ _ _ _ _ refl refl refl refl refl refl refl e
     where
@@ -99,13 +100,13 @@ module _ (limit : ℕ) (first second : List ℕ) (room : ℕ) where
           → ltb (first_bad_call first) (call_count first) ≡ u → ltb (first_bad_call second) (call_count second) ≡ v
           → ltb (first_below first) (call_count first) ≡ x → ltb (first_below second) (call_count second) ≡ y
           → leb (HANDED_WIDTH * (call_count first + call_count second)) room ≡ z
-          → cond s TooManyRecords
-          (cond t TooManyRecords
-          (cond u (BadRecord (first_bad_call first))
-          (cond v (BadRecord (first_bad_call second))
-          (cond x (OutOfOrder (first_below first))
-          (cond y (OutOfOrder (first_below second)) (cond z (Joined (call_count first + call_count second)) BufferShort))))))
-          ≡ Joined calls
+          → cond s (Err TooManyRecords)
+          (cond t (Err TooManyRecords)
+          (cond u (Err (BadRecord (first_bad_call first)))
+          (cond v (Err (BadRecord (first_bad_call second)))
+          (cond x (Err (OutOfOrder (first_below first)))
+          (cond y (Err (OutOfOrder (first_below second))) (cond z (Ok (call_count first + call_count second)) (Err BufferShort)))))))
+          ≡ Ok calls
           → JoinedFacts calls
       step true t u v x y z hs ht hu hv hx hy hz e = absurd (let q : ◌≡◌ {A = ℕ} 0 1 = cc in omega arith)
       step false true u v x y z hs ht hu hv hx hy hz e = absurd (let q : ◌≡◌ {A = ℕ} 0 1 = cc in omega arith)
@@ -126,12 +127,8 @@ module _ (limit : ℕ) (first second : List ℕ) (room : ℕ) where
             fits = leb-true _ _ hz;
           }
 
--- a refusal, any answer but Joined, writes nothing
-pub refused_keeps : (first second joined : List ℕ) (a : JoinAnswer) → ((calls : ℕ) → a ≡ Joined calls → ⊥)
-    → joined ≡ joined_after first second a joined
+-- a refusal writes nothing
+pub refused_keeps : (first second joined : List ℕ) (a : JoinAnswer) → IsErr a → joined ≡ joined_after first second a joined
 unfolding joined_after
-refused_keeps first second joined (Joined calls) h = absurd (h calls refl)
-refused_keeps first second joined TooManyRecords h = refl
-refused_keeps first second joined (BadRecord place) h = refl
-refused_keeps first second joined (OutOfOrder place) h = refl
-refused_keeps first second joined BufferShort h = refl
+refused_keeps first second joined (Ok calls) h = absurd (true≢false (sym h))
+refused_keeps first second joined (Err why) h = refl

@@ -4,6 +4,7 @@ use mathlib.Core.Path.{◌≡◌, refl, sym, ap, ap₂, subst, ◌∙◌}
 use mathlib.Core.Bool.{Bool, true, false, not}
 use mathlib.Core.List.{List, [], ◌∷◌, map}
 use Prim.Native.Nat.{ℕ, ◌+◌, ◌*◌, ◌≤◌}
+use Rattle.std.specs.Prelude.{Ok, Err}
 use native.Mathlib.Omega.{arith}
 use lib.ListN.{length, take}
 use Rattle.lists.specs.Lists.{All}
@@ -15,10 +16,9 @@ use Rattle.records.proofs.Records.{all_good, none_bad}
 use Rattle.records.proofs.RecordList.{records_joined, records_count_lem, each_record}
 use Rattle.call.specs.Flat.{HANDED_WIDTH, good_call}
 use Rattle.call.proofs.GoodCalls.{good_whole}
-use Rattle.call_join.specs.Join.{joined_calls, call_records, call_count, in_numbers, first_bad_call, join_answer, filled_joined, joined_after, join_numbers}
+use Rattle.call_join.specs.Join.{joined_calls, call_records, call_count, in_numbers, first_bad_call, JoinAnswer, join_answer, filled_joined, joined_after, join_numbers}
 use Rattle.call_join.specs.JoinLaws.{marked, IsJoined, Admitted, OrderJudged, JoinWritten, JoinLaws}
-use Rattle.call_join.specs.declared.JoinAnswer.{JoinAnswer}
-use Rattle.call_join.specs.declared.JoinAnswer.TheVariants.{Joined, TooManyRecords, BadRecord, OutOfOrder, BufferShort}
+use Rattle.call_join.specs.declared.JoinRefusal.TheVariants.{TooManyRecords, BadRecord, OutOfOrder, BufferShort}
 use Rattle.call_join.proofs.Joining.{all_map, marked_both, joined_is, joined_only}
 use Rattle.call_join.proofs.Order.{in_order_of, none_below, below_at}
 use Rattle.call_join.proofs.Answers.{below_first, below_second, joined_fits, joined_short, JoinedFacts, joined_facts}
@@ -41,12 +41,12 @@ order_judged limit first second room a b =
     record {
       of_first_lem = λ place f.
           let e = below_at first place f in
-          sym (below_first limit first second room a.few b.few c d (omega (arith, e, f.inside, records_count_lem HANDED_WIDTH first))) ∙ ap OutOfOrder e;
+          sym (below_first limit first second room a.few b.few c d (omega (arith, e, f.inside, records_count_lem HANDED_WIDTH first))) ∙ ap (λ k. Err (OutOfOrder k)) e;
       of_second = λ place o f.
           let e = below_at second place f in
           sym (below_second limit first second room a.few b.few c d (none_below first o)
           (omega (arith, e, f.inside, records_count_lem HANDED_WIDTH second)))
-          ∙ ap OutOfOrder e;
+          ∙ ap (λ k. Err (OutOfOrder k)) e;
       served = λ o p h. sym (joined_fits limit first second room a.few b.few c d (none_below first o) (none_below second p) h);
       short = λ o p h. sym (joined_short limit first second room a.few b.few c d (none_below first o) (none_below second p) h);
     }
@@ -76,8 +76,8 @@ module _ (xs ys zs : List (List ℕ)) (j : IsJoined xs ys zs) where
       marked_both (λ z. length z ≡ HANDED_WIDTH) j.of_first zs j.each
       (subst (All (λ z. length z ≡ HANDED_WIDTH)) (sym j.all_first) h) (subst (All (λ z. length z ≡ HANDED_WIDTH)) (sym j.all_second) g)
 
-join_written : (limit : ℕ) (first second joined : List ℕ) (calls : ℕ) → join_answer limit first second (length joined) ≡ Joined calls
-    → JoinWritten limit first second (take (HANDED_WIDTH * calls) (joined_after first second (Joined calls) joined)) calls
+join_written : (limit : ℕ) (first second joined : List ℕ) (calls : ℕ) → join_answer limit first second (length joined) ≡ Ok calls
+    → JoinWritten limit first second (take (HANDED_WIDTH * calls) (joined_after first second (Ok calls) joined)) calls
 unfolding joined_after filled_joined
 join_written limit first second joined calls e =
     record {
@@ -118,23 +118,23 @@ join_written limit first second joined calls e =
           records_count_lem HANDED_WIDTH second,
         )
 
-    front : take (HANDED_WIDTH * calls) (joined_after first second (Joined calls) joined) ≡ in_numbers zs
+    front : take (HANDED_WIDTH * calls) (joined_after first second (Ok calls) joined) ≡ in_numbers zs
     front =
         let n : HANDED_WIDTH * calls ≡ 0 + length (in_numbers zs) = omega (arith, long) in
-        ap (λ (m : ℕ). take m (joined_after first second (Joined calls) joined)) n
+        ap (λ (m : ℕ). take m (joined_after first second (Ok calls) joined)) n
         ∙ store_front joined 0 (in_numbers zs) (omega (arith, long, f.fits, f.counted))
 
-    are : call_records (take (HANDED_WIDTH * calls) (joined_after first second (Joined calls) joined)) ≡ zs
+    are : call_records (take (HANDED_WIDTH * calls) (joined_after first second (Ok calls) joined)) ≡ zs
     are = ap call_records front ∙ records_joined HANDED_WIDTH (omega arith) (λ z. z) zs whole ∙ map_self zs
 
 -- Numbers that it never answers
 
 never_answered : (a : JoinAnswer) → 1 ≤ (join_numbers 8 a).number → (join_numbers 8 a).number ≤ 7 → ⊥
-never_answered (Joined calls) h g = omega arith
-never_answered TooManyRecords h g = omega arith
-never_answered (BadRecord place) h g = omega arith
-never_answered (OutOfOrder place) h g = omega arith
-never_answered BufferShort h g = omega arith
+never_answered (Ok calls) h g = omega arith
+never_answered (Err TooManyRecords) h g = omega arith
+never_answered (Err (BadRecord place)) h g = omega arith
+never_answered (Err (OutOfOrder place)) h g = omega arith
+never_answered (Err BufferShort) h g = omega arith
 
 pub join_laws : JoinLaws
 join_laws =

@@ -2,15 +2,15 @@
 -- of stamp, equal stamps allowed. The joined list is in order, has each call of both once and no other, keeps each list's own order and puts
 -- the first list's call ahead at equal stamps." The limit on the calls of a list is a parameter (65,536 for callers), and so is the number
 -- of its refusal. Assumes nothing.
-use Rattle.std.specs.Prelude.{◌≡◌, Bool, cond, ℕ, ◌+◌, ◌-◌, ◌*◌, ltb, leb, length}
+use Rattle.std.specs.Prelude.{◌≡◌, Bool, cond, ℕ, ◌+◌, ◌-◌, ◌*◌, ltb, leb, length, Result, Ok, Err}
 use mathlib.Core.List.{List, [], ◌∷◌, flat_map}
 use Rattle.answer.specs.Numbers.{accepted, refused}
 use Rattle.answer.specs.declared.Answer.{Answer}
 use Rattle.lists.specs.Lists.{store, first as lowest}
 use Rattle.records.specs.Records.{record_count, record_at, records_in, first_bad}
 use Rattle.call.specs.Flat.{HANDED_WIDTH, call_from, good_call}
-use Rattle.call_join.specs.declared.JoinAnswer.{JoinAnswer}
-use Rattle.call_join.specs.declared.JoinAnswer.TheVariants.{Joined, TooManyRecords, BadRecord, OutOfOrder, BufferShort}
+use Rattle.call_join.specs.declared.JoinRefusal.{JoinRefusal}
+use Rattle.call_join.specs.declared.JoinRefusal.TheVariants.{TooManyRecords, BadRecord, OutOfOrder, BufferShort}
 
 -- The joined list
 
@@ -39,7 +39,10 @@ call_count l = record_count HANDED_WIDTH l
 abbrev pub in_numbers : List (List ℕ) → List ℕ
 in_numbers zs = flat_map (λ z. z) zs
 
--- The answer
+-- The answer: how many calls are written, or a refusal
+
+abbrev pub JoinAnswer : Type 0
+JoinAnswer = Result ℕ JoinRefusal
 
 -- the lowest call that is cut or has a field outside its values, or the count
 abbrev pub first_bad_call : List ℕ → ℕ
@@ -60,13 +63,13 @@ first_below l = lowest (is_below l) 1 (call_count l - 1)
 -- before it; tested after 10 and before 9. Each of 8, 10 and 20 judges the first list before the second, its place counted in that list."
 unfoldable pub join_answer : ℕ → List ℕ → List ℕ → ℕ → JoinAnswer
 join_answer limit first second room =
-    cond (ltb limit (call_count first)) TooManyRecords
-    (cond (ltb limit (call_count second)) TooManyRecords
-    (cond (ltb (first_bad_call first) (call_count first)) (BadRecord (first_bad_call first))
-    (cond (ltb (first_bad_call second) (call_count second)) (BadRecord (first_bad_call second))
-    (cond (ltb (first_below first) (call_count first)) (OutOfOrder (first_below first))
-    (cond (ltb (first_below second) (call_count second)) (OutOfOrder (first_below second))
-    (cond (leb (HANDED_WIDTH * (call_count first + call_count second)) room) (Joined (call_count first + call_count second)) BufferShort))))))
+    cond (ltb limit (call_count first)) (Err TooManyRecords)
+    (cond (ltb limit (call_count second)) (Err TooManyRecords)
+    (cond (ltb (first_bad_call first) (call_count first)) (Err (BadRecord (first_bad_call first)))
+    (cond (ltb (first_bad_call second) (call_count second)) (Err (BadRecord (first_bad_call second)))
+    (cond (ltb (first_below first) (call_count first)) (Err (OutOfOrder (first_below first)))
+    (cond (ltb (first_below second) (call_count second)) (Err (OutOfOrder (first_below second)))
+    (cond (leb (HANDED_WIDTH * (call_count first + call_count second)) room) (Ok (call_count first + call_count second)) (Err BufferShort)))))))
 
 -- the lent buffer with the joined list in it
 unfoldable pub filled_joined : List ℕ → List ℕ → List ℕ → List ℕ
@@ -74,19 +77,16 @@ filled_joined first second joined = store joined 0 (in_numbers (joined_calls (ca
 
 -- the lent buffer afterwards: a refusal writes nothing, and numbers past the result keep their values
 unfoldable pub joined_after : List ℕ → List ℕ → JoinAnswer → List ℕ → List ℕ
-joined_after first second (Joined calls) joined = filled_joined first second joined
-joined_after first second TooManyRecords joined = joined
-joined_after first second (BadRecord place) joined = joined
-joined_after first second (OutOfOrder place) joined = joined
-joined_after first second BufferShort joined = joined
+joined_after first second (Ok calls) joined = filled_joined first second joined
+joined_after first second (Err why) joined = joined
 
 -- the number, place and value of each case; `over` is the number of the refusal of too many calls, 8 for the limit 65,536
 abbrev pub join_numbers : ℕ → JoinAnswer → Answer
-join_numbers over (Joined calls) = accepted calls
-join_numbers over TooManyRecords = refused over 0
-join_numbers over (BadRecord place) = refused 10 place
-join_numbers over (OutOfOrder place) = refused 20 place
-join_numbers over BufferShort = refused 9 0
+join_numbers over (Ok calls) = accepted calls
+join_numbers over (Err TooManyRecords) = refused over 0
+join_numbers over (Err (BadRecord place)) = refused 10 place
+join_numbers over (Err (OutOfOrder place)) = refused 20 place
+join_numbers over (Err BufferShort) = refused 9 0
 
 -- what a function that joins has to show: the numbers that it answers, and the lent buffer when it is done
 pub record JoinDone (limit over : ℕ) (first second joined : List ℕ) (numbers : Answer) (after : List ℕ) : Type 0 where

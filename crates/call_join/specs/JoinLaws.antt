@@ -1,11 +1,11 @@
 -- The join in document 02's own words, beside the definition that computes it, both ways: what is joined has every property that is asked
 -- for, and any list that has them is this one. Calls are told apart by their places, so that equal ones count. `join_laws_hold` in theorems
 -- carries these. Assumes nothing.
-use Rattle.std.specs.Prelude.{◌≡◌, Bool, true, false, not, cond, List, [], ◌∷◌, map, ℕ, suc, ◌+◌, ◌*◌, ◌≤◌, ◌<◌, length, take, get_or}
+use Rattle.std.specs.Prelude.{◌≡◌, Bool, true, false, not, cond, List, [], ◌∷◌, map, ℕ, suc, ◌+◌, ◌*◌, ◌≤◌, ◌<◌, length, take, get_or, Ok, Err}
 use Rattle.lists.specs.Lists.{All}
 use Rattle.call.specs.Flat.{HANDED_WIDTH, good_call}
 use Rattle.call_join.specs.Join.{stamp_of, joined_calls, call_records, call_count, join_answer, joined_after, join_numbers}
-use Rattle.call_join.specs.declared.JoinAnswer.TheVariants.{Joined, OutOfOrder, BufferShort}
+use Rattle.call_join.specs.declared.JoinRefusal.TheVariants.{OutOfOrder, BufferShort}
 
 -- Lists of calls
 
@@ -53,15 +53,15 @@ pub record Admitted (limit : ℕ) (l : List ℕ) : Type 0 where
 
 -- the answer for two such lists and a buffer of so many numbers: 20 exactly if one of them is out of order, the first judged first
 pub record OrderJudged (limit : ℕ) (first second : List ℕ) (room : ℕ) : Type 0 where
-  pub of_first_lem : (place : ℕ) → FirstBelow (call_records first) place → join_answer limit first second room ≡ OutOfOrder place
+  pub of_first_lem : (place : ℕ) → FirstBelow (call_records first) place → join_answer limit first second room ≡ Err (OutOfOrder place)
   pub of_second : (place : ℕ) → StampsInOrder (call_records first) → FirstBelow (call_records second) place
-      → join_answer limit first second room ≡ OutOfOrder place
+      → join_answer limit first second room ≡ Err (OutOfOrder place)
   -- and else the join, if it fits, or 9
   pub served : StampsInOrder (call_records first) → StampsInOrder (call_records second)
       → HANDED_WIDTH * (call_count first + call_count second) ≤ room
-      → join_answer limit first second room ≡ Joined (call_count first + call_count second)
+      → join_answer limit first second room ≡ Ok (call_count first + call_count second)
   pub short : StampsInOrder (call_records first) → StampsInOrder (call_records second)
-      → room < HANDED_WIDTH * (call_count first + call_count second) → join_answer limit first second room ≡ BufferShort
+      → room < HANDED_WIDTH * (call_count first + call_count second) → join_answer limit first second room ≡ Err BufferShort
 
 -- so many calls `written` at the front of the buffer
 pub record JoinWritten (limit : ℕ) (first second written : List ℕ) (calls : ℕ) : Type 0 where
@@ -78,8 +78,8 @@ pub record JoinLaws : Type 0 where
   -- of what is answered
   pub order : (limit : ℕ) (first second : List ℕ) (room : ℕ) → Admitted limit first → Admitted limit second → OrderJudged limit first second room
   -- of what is written
-  pub written : (limit : ℕ) (first second joined : List ℕ) (calls : ℕ) → join_answer limit first second (length joined) ≡ Joined calls
-      → JoinWritten limit first second (take (HANDED_WIDTH * calls) (joined_after first second (Joined calls) joined)) calls
+  pub written : (limit : ℕ) (first second joined : List ℕ) (calls : ℕ) → join_answer limit first second (length joined) ≡ Ok calls
+      → JoinWritten limit first second (take (HANDED_WIDTH * calls) (joined_after first second (Ok calls) joined)) calls
   -- the join judges no call as the expansion or the register step do: it never answers 1 to 7
   pub never : (limit : ℕ) (first second : List ℕ) (room : ℕ) → let n = (join_numbers 8 (join_answer limit first second room)).number in
       1 ≤ n → n ≤ 7 → ⊥

@@ -7,7 +7,7 @@ ghost use Rattle.call.specs.Flat.{HANDED_WIDTH};
 ghost use Rattle.call_join.specs.Join.{call_count, stamp_at, first_below, join_answer, filled_joined, joined_after};
 ghost use Rattle.call_join.specs.Inner.{WholeCalls};
 
-use crate::JoinAnswer;
+use crate::JoinRefusal;
 use call::HANDED_WIDTH;
 use call::flat::stamp_of;
 use kinds::RecordKind;
@@ -16,21 +16,31 @@ use lists::slices::put_at;
 use records::tables::{record_at, record_count};
 
 // Joins two lists of at most `limit` calls each.
-pub fn join(limit: usize, first: &[u64], second: &[u64], joined: &mut [u64]) -> JoinAnswer
+#[tactic(auto, using(crate::proofs::Answers::refused_keeps))]
+pub fn join(
+    limit: usize,
+    first: &[u64],
+    second: &[u64],
+    joined: &mut [u64],
+) -> Result<usize, JoinRefusal>
     requires { limit ≤ 2 ^ 20 }
     ensures answer { result ≡ join_answer limit first.now second.now (length joined.old) }
     ensures joined { joined.new ≡ joined_after first.now second.now result joined.old }
 {
-    let answer = join_answer(limit, first, second, joined.len());
-    if let JoinAnswer::Joined { calls: _ } = answer {
-        write_joined(first, second, joined);
-    }
-    answer
+    let calls = join_answer(limit, first, second, joined.len())?;
+    write_joined(first, second, joined);
+    Ok(calls)
 }
 
 // The answer for a lent buffer of `room` numbers: 8, 10 and 20, each of the first list and then of the second, then 9. Lists that are too
 // long are not read.
-fn join_answer(limit: usize, first: &[u64], second: &[u64], room: usize) -> JoinAnswer
+#[tactic(auto, using(crate::proofs::Answers::over_first, crate::proofs::Answers::over_second, crate::proofs::Answers::bad_first, crate::proofs::Answers::bad_second))]
+fn join_answer(
+    limit: usize,
+    first: &[u64],
+    second: &[u64],
+    room: usize,
+) -> Result<usize, JoinRefusal>
     requires { limit ≤ 2 ^ 20 }
     ensures { result ≡ join_answer limit first.now second.now room }
 {
@@ -38,49 +48,48 @@ fn join_answer(limit: usize, first: &[u64], second: &[u64], room: usize) -> Join
     let m = record_count(second, HANDED_WIDTH);
     let calls = n + m;
     if limit < n {
-        return JoinAnswer::TooManyRecords;
+        return Err(JoinRefusal::TooManyRecords);
     }
     if limit < m {
-        return JoinAnswer::TooManyRecords;
+        return Err(JoinRefusal::TooManyRecords);
     }
     let bad_first = first_bad(RecordKind::Call, first, HANDED_WIDTH, n);
     let bad_second = first_bad(RecordKind::Call, second, HANDED_WIDTH, m);
     let below_first = first_below(first, n);
     let below_second = first_below(second, m);
     if bad_first < n {
-        return JoinAnswer::BadRecord { place: bad_first };
+        return Err(JoinRefusal::BadRecord { place: bad_first });
     }
     if bad_second < m {
-        return JoinAnswer::BadRecord { place: bad_second };
+        return Err(JoinRefusal::BadRecord { place: bad_second });
     }
     if below_first < n {
-        return JoinAnswer::OutOfOrder { place: below_first };
+        return Err(JoinRefusal::OutOfOrder { place: below_first });
     }
     if below_second < m {
-        return JoinAnswer::OutOfOrder {
+        return Err(JoinRefusal::OutOfOrder {
             place: below_second,
-        };
+        });
     }
     if HANDED_WIDTH * calls <= room {
-        return JoinAnswer::Joined { calls };
+        return Ok(calls);
     }
-    JoinAnswer::BufferShort
+    Err(JoinRefusal::BufferShort)
 }
 
 // The lowest of the n calls that is stamped below the one before it, or where the search ends.
+#[tactic(auto, using(lists::proofs::First::first_end), unfolding(crate::specs::Join::first_below))]
 fn first_below(calls: &[u64], n: usize) -> usize
     requires { n ≡ call_count calls.now }
     ensures { result ≡ first_below calls.now }
 {
-    let mut k = 1;
-    while k < n {
+    for k in 1..n {
         let before = k - 1;
         if stamp_at(calls, k) < stamp_at(calls, before) {
             return k;
         }
-        k += 1;
     }
-    k
+    n.max(1)
 }
 
 // The stamp of call `k`, which may be cut.
@@ -116,6 +125,7 @@ fn write_joined(first: &[u64], second: &[u64], joined: &mut [u64])
 }
 
 // The stamp of call `k`, which is whole: no length has to be asked for.
+#[tactic(auto, using(records::proofs::Records::record_part))]
 fn whole_stamp(calls: &[u64], k: usize) -> u64
     requires { HANDED_WIDTH * k + HANDED_WIDTH ≤ length calls.now }
     ensures { result ≡ stamp_at calls.now k }
@@ -125,6 +135,7 @@ fn whole_stamp(calls: &[u64], k: usize) -> u64
 }
 
 // Writes call `k` of a list behind the `end` calls that are written.
+#[tactic(auto, using(records::proofs::Records::record_part))]
 fn put_call(calls: &[u64], k: usize, end: usize, joined: &mut [u64])
     requires { (HANDED_WIDTH * k + HANDED_WIDTH ≤ length calls.now) × (HANDED_WIDTH * end + HANDED_WIDTH ≤ length joined.old) }
     ensures { joined.new ≡ store joined.old (HANDED_WIDTH * end) (record_at HANDED_WIDTH calls.now k) }

@@ -1,4 +1,3 @@
-pub mod OneLine
 pub mod Turns
 pub mod Printed
 pub mod Lengths

@@ -11,7 +11,7 @@ use lib.Seq.{take_at}
 use Rattle.lists.specs.Lists.{All}
 use Rattle.records.specs.Records.{LIMIT}
 use Rattle.records.specs.RowCount.{row_count}
-use Rattle.records.specs.declared.TableAnswer.TheVariants.{Made}
+use Rattle.std.specs.Prelude.{Ok}
 use Rattle.call.specs.Ops.{op_record, OP_WIDTH}
 use Rattle.call.specs.Cuts.{CutCall}
 use Rattle.words.proofs.Digits.{below_same}
@@ -65,8 +65,8 @@ module _ (gap : ℕ) (g : gap < 2 ^ 32) (tries : List Try) (typed : All Typed tr
   whole =
       subst (λ (l : List ℕ). WholeCalls gap l cuts) (sym (table_is gap g tries typed short))
       (subst
-      (λ (r : List ℕ). copy_answer LIMIT r TABLE_ROOM ≡ Made n
-      → WholeCalls gap (take (COLUMNS * n) (copy_after r (Made n) (replicate TABLE_ROOM 0))) cuts)
+      (λ (r : List ℕ). copy_answer LIMIT r TABLE_ROOM ≡ Ok n
+      → WholeCalls gap (take (COLUMNS * n) (copy_after r (Ok n) (replicate TABLE_ROOM 0))) cuts)
       (sym (tries_wrote gap tries typed))
       (λ m. written_calls gap LIMIT (lit≤ tt) cuts (tries_fit gap tries typed) (replicate TABLE_ROOM 0) n m g)
       (made gap g tries typed short))

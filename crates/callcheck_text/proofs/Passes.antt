@@ -17,11 +17,10 @@ use Rattle.lists.specs.Lists.{All}
 use Rattle.lists.proofs.Joined.{flat_map_length}
 use Rattle.records.specs.Records.{LIMIT}
 use Rattle.records.specs.RowCount.{row_count}
-use Rattle.records.specs.Table.{table_numbers}
-use Rattle.records.specs.declared.TableAnswer.{TableAnswer}
-use Rattle.records.specs.declared.TableAnswer.TheVariants.{Made}
+use Rattle.records.specs.Table.{TableAnswer, table_numbers}
 use Rattle.records.proofs.RowCount.{row_count_le}
-use Rattle.call.specs.Calls.{Op, call_with}
+use Rattle.call.specs.Calls.{Op}
+use Rattle.std.specs.Prelude.{Option, Some, None, Ok}
 use Rattle.call.specs.Calls as calls
 use Rattle.call.specs.Ops.{op_record, OP_WIDTH}
 use Rattle.call.specs.Cuts.{ops_of, FitsTypes}
@@ -46,10 +45,9 @@ use Rattle.whole_calls.proofs.Accepted.{cut_try, tries_fit, tries_wrote}
 use Rattle.whole_calls.proofs.Demand.{demand3}
 use Rattle.text.specs.Pieces.{after}
 use Rattle.text.specs.Lines.{lines, call_line}
-use Rattle.text.specs.declared.Line.{Line}
-use Rattle.text.specs.declared.Line.TheVariants.{Call, Other}
+use Rattle.text.specs.declared.CallLine.{CallLine}
 use Rattle.text.specs.RowLines.{rows_text, passed_text}
-use Rattle.callcheck_text.specs.Run.{Ending, done, refused, OPS_ROOM, on_answer, on_line, lines_from, in_front}
+use Rattle.callcheck_text.specs.Run.{Ending, done, refused, OPS_ROOM, on_answer, call_of, on_line, lines_from, in_front}
 use Rattle.callcheck_text.specs.Output.{TABLE_ROOM, checked_rows, verdict_of, verdict_text, ending_text, start, VerdictPasses}
 use Rattle.callcheck_text.proofs.Printed.{good_gap}
 use Rattle.callcheck_text.proofs.Typed.{call_words}
@@ -86,22 +84,22 @@ lines_tried s line [] l records e = record { calls = []; words = tt; wrote = sym
 lines_tried s line (x ∷ xs) l records e =
     go (call_line x) refl e (λ c more k. lines_tried s (line + 1) xs (leaves s (try_of c l)) more k)
   where
-    go : (p : Line) → call_line x ≡ p
+    go : (p : Option CallLine) → call_line x ≡ p
         → on_line p line
         (λ c. let t = try_of c l in on_answer (answered s t) line (in_front (ops_written s t) (lines_from s (line + 1) xs (leaves s t))))
         ≡ done records
         → ((c : calls.Call) (more : List ℕ) → lines_from s (line + 1) xs (leaves s (try_of c l)) ≡ done more → Tried s (leaves s (try_of c l)) more)
         → Tried s l records
-    go Other q e later = absurd (not_done _ _ _ e)
-    go (Call kind stamp src dst count) q e later =
-        let c = call_with kind stamp src dst count in
+    go None q e later = absurd (not_done _ _ _ e)
+    go (Some call) q e later =
+        let c = call_of call in
         let t = try_of c l in
         let next = lines_from s (line + 1) xs (leaves s t) in
         let g = goes_on (answered s t) line (ops_written s t) next records e in
         let k = later c (end_records next) g.0 in
         record {
           calls = c ∷ k.calls;
-          words = (call_words x kind stamp src dst count q, k.words);
+          words = (call_words x call q, k.words);
           wrote = g.1 ∙ ap (λ (y : List ℕ). ops_written s t ++ y) k.wrote ∙ sym (ops_more s t (tries_of s k.calls (leaves s t)));
         }
 
@@ -128,7 +126,7 @@ module _ (gap : ℕ) (g : gap < 2 ^ 32) (tries : List Try) (typed : All Typed tr
       let n : length ops ≤ 2 ^ 5 = omega (arith, count) in
       row_count_le (length ops) 5 (omega arith) n (omega arith)
 
-  pub made : copy_answer LIMIT records TABLE_ROOM ≡ Made rows
+  pub made : copy_answer LIMIT records TABLE_ROOM ≡ Ok rows
   made =
       let n : length ops ≤ LIMIT = omega (arith, count) in
       ap (λ (l : List ℕ). copy_answer LIMIT l TABLE_ROOM) (tries_wrote gap tries typed)
@@ -136,7 +134,7 @@ module _ (gap : ℕ) (g : gap < 2 ^ 32) (tries : List Try) (typed : All Typed tr
       ∙ rw (le-ltb LIMIT (length ops) n, le-leb (COLUMNS * rows) TABLE_ROOM (omega (arith, few)))
 
   abbrev pub table : List ℕ
-  table = take (COLUMNS * rows) (copy_after records (Made rows) (replicate TABLE_ROOM 0))
+  table = take (COLUMNS * rows) (copy_after records (Ok rows) (replicate TABLE_ROOM 0))
 
   pub table_is : checked_rows records ≡ table
   unfolding checked_rows
@@ -148,8 +146,8 @@ module _ (gap : ℕ) (g : gap < 2 ^ 32) (tries : List Try) (typed : All Typed tr
   pub table_rows_lem : length table / COLUMNS ≡ rows
   table_rows_lem =
       let n : length table ≡ COLUMNS * rows =
-      length-take-le (COLUMNS * rows) (copy_after records (Made rows) (replicate TABLE_ROOM 0))
-      (omega (arith, few, after_length records (Made rows) (replicate TABLE_ROOM 0))) in
+      length-take-le (COLUMNS * rows) (copy_after records (Ok rows) (replicate TABLE_ROOM 0))
+      (omega (arith, few, after_length records (Ok rows) (replicate TABLE_ROOM 0))) in
       omega arith
 
   verdict_is : verdict_of gap records ≡ numbers.accepted rows

@@ -12,9 +12,8 @@ use lib.Dec.{eqb, ltb, leb}
 use lib.ListN.{length, take, drop, length-take}
 use lib.Seq.{take-take, take-nil}
 use Rattle.call.specs.Calls as calls
-use Rattle.call.specs.Calls.{call_with}
+use Rattle.std.specs.Prelude.{Option, Some, None}
 use Rattle.call.specs.Ops.{OP_WIDTH}
-use Rattle.call.specs.declared.Functionality.{Functionality}
 use Rattle.expansion.specs.Tries.{Setting, under, Lent, Lengths, Try, try_of}
 use Rattle.expansion.specs.Refusals.{answered}
 use Rattle.expansion.proofs.Outcome.{taken_try}
@@ -24,15 +23,12 @@ use Rattle.calls_in_turn.specs.InTurn.{leaves}
 use Rattle.calls_in_turn.proofs.Written.{taken_value, leaves_lengths}
 use Rattle.text.specs.Pieces.{index_of, before, after}
 use Rattle.text.specs.Lines.{lines, gap_of, call_line}
-use Rattle.text.specs.declared.Line.{Line}
-use Rattle.text.specs.declared.Line.TheVariants.{Call, Other}
-use Rattle.text.specs.declared.Parsed.{Parsed}
-use Rattle.text.specs.declared.Parsed.TheVariants.{Number, Bad}
-use Rattle.text.proofs.Pieces.{lines_first}
+use Rattle.text.specs.declared.CallLine.{CallLine}
+use Rattle.text.proofs.Pieces.{lines_first, index_le}
 use Rattle.text.specs.RowLines.{refused_text}
-use Rattle.callcheck_text.specs.Run.{refused, in_front, on_answer, on_line, lines_from}
+use Rattle.callcheck_text.specs.Run.{refused, in_front, on_answer, call_of, on_line, lines_from}
 use Rattle.callcheck_text.specs.Output.{ending_text, start, on_gap, output_of, PrefixDecides}
-use Rattle.callcheck_text.proofs.Lengths.{index_le, call_long, gap_long}
+use Rattle.callcheck_text.proofs.Lengths.{call_long, gap_long}
 
 -- The first line of a prefix, and what is after it
 
@@ -76,13 +72,13 @@ module _
     (s : Setting) (line : ℕ) (l : Lent) (x : List ℕ) (rest all : List (List ℕ))
     (after_it : length x ≤ 89 → (c : calls.Call) → eqb (answered s (try_of c l)).number 0 ≡ true
     → lines_from s (line + 1) rest (leaves s (try_of c l)) ≡ lines_from s (line + 1) all (leaves s (try_of c l))) where
-  line_short : (kind : Functionality) (stamp src dst count : ℕ) → call_line x ≡ Call kind stamp src dst count → length x ≤ 89
-  line_short kind stamp src dst count e = go (leb (length x) 89) refl
+  line_short : (call : CallLine) → call_line x ≡ Some call → length x ≤ 89
+  line_short call e = go (leb (length x) 89) refl
     where
       go : (t : Bool) → leb (length x) 89 ≡ t → length x ≤ 89
       go true f = leb-true (length x) 89 f
       go false f =
-          let other : call_line x ≡ Other = call_long x (leb-false (length x) 89 f) in
+          let other : call_line x ≡ None = call_long x (leb-false (length x) 89 f) in
           let z : ◌≡◌ {A = ℕ} 0 1 = cc in
           absurd (omega arith)
 
@@ -97,15 +93,15 @@ module _
       by_answer c h true e = ap (in_front (ops_written s (try_of c l))) (after_it h c e)
       by_answer c h false e = refl
 
-      go : (p : Line) → call_line x ≡ p
+      go : (p : Option CallLine) → call_line x ≡ p
           → on_line p line
           (λ c. let t = try_of c l in on_answer (answered s t) line (in_front (ops_written s t) (lines_from s (line + 1) rest (leaves s t))))
           ≡ on_line p line
           (λ c. let t = try_of c l in on_answer (answered s t) line (in_front (ops_written s t) (lines_from s (line + 1) all (leaves s t))))
-      go Other e = refl
-      go (Call kind stamp src dst count) e =
-          let c = call_with kind stamp src dst count in
-          by_answer c (line_short kind stamp src dst count e) (eqb (answered s (try_of c l)).number 0) refl
+      go None e = refl
+      go (Some call) e =
+          let c = call_of call in
+          by_answer c (line_short call e) (eqb (answered s (try_of c l)).number 0) refl
 
 -- two first lines that are both too long are refused alike
 both_long : (s : Setting) (line : ℕ) (l : Lent) (x y : List ℕ) (xs ys : List (List ℕ)) → 89 < length x → 89 < length y
@@ -152,9 +148,9 @@ calls_prefix (suc m) s line (suc n) (x ∷ xs) l h r =
 
 -- The whole input
 
-same_gap : (p : Parsed) (f g : ℕ → List ℕ) → ((gap : ℕ) → f gap ≡ g gap) → on_gap p f ≡ on_gap p g
-same_gap (Number gap) f g h = ap (cond (leb (2 ^ 32) gap) (refused_text 7 1)) (h gap)
-same_gap Bad f g h = refl
+same_gap : (p : Option ℕ) (f g : ℕ → List ℕ) → ((gap : ℕ) → f gap ≡ g gap) → on_gap p f ≡ on_gap p g
+same_gap (Some gap) f g h = ap (cond (leb (2 ^ 32) gap) (refused_text 7 1)) (h gap)
+same_gap None f g h = refl
 
 pub prefix_decides : PrefixDecides
 unfolding output_of

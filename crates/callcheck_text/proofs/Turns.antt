@@ -9,7 +9,7 @@ use lib.Dec.{eqb}
 use lib.ListN.{length, take, drop, length-drop, drop_of_length-le}
 use Rattle.answer.specs.declared.Answer.{Answer}
 use Rattle.lists.proofs.Store.{store_front, length_store}
-use Rattle.call.specs.Calls.{call_with}
+use Rattle.std.specs.Prelude.{Option, Some, None, Result, Ok, Err}
 use Rattle.call.specs.Calls as calls
 use Rattle.call.specs.Ops.{OP_WIDTH}
 use Rattle.expansion.specs.Tries.{Setting, Lent, lengths_are, lengths, Try, try_of, Lengths}
@@ -23,13 +23,11 @@ use Rattle.calls_in_turn.proofs.Written.{taken_value, written_length, written_ro
 use Rattle.calls_in_turn.proofs.Behind.{part_of, back_in, part_whole, Stood, stood}
 use Rattle.text.specs.Pieces.{before, after}
 use Rattle.text.specs.Lines.{lines, call_line}
-use Rattle.text.specs.declared.Line.{Line}
-use Rattle.text.specs.declared.Line.TheVariants.{Call, Other}
+use Rattle.text.specs.declared.CallLine.{CallLine}
+use Rattle.callcheck_text.specs.declared.Refused.{Refused}
 use Rattle.text.proofs.Pieces.{lines_at, rest_is}
 use Rattle.callcheck_text.specs.Inner.{step_of, line_step, line_after}
-use Rattle.callcheck_text.specs.Run.{Ending, done, refused, in_front, on_answer, on_line, lines_from}
-use Rattle.callcheck_text.specs.declared.Step.{Step}
-use Rattle.callcheck_text.specs.declared.Step.TheVariants.{Rows, Stop}
+use Rattle.callcheck_text.specs.Run.{Ending, done, refused, in_front, on_answer, call_of, on_line, lines_from}
 
 -- Records in front
 
@@ -43,30 +41,21 @@ front_join xs ys (refused number line) = refl
 
 -- What a step says of the answer
 
-abbrev step_number : Step → ℕ
-step_number (Rows rows) = 0
-step_number (Stop number) = number
-
-abbrev step_rows : Step → ℕ
-step_rows (Rows rows) = rows
-step_rows (Stop number) = 0
-
-never : (m n : ℕ) → Rows m ≡ Stop n → ⊥
-never m n e = let z : ◌≡◌ {A = ℕ} 0 1 = cc in omega arith
-
-stops : (a : Answer) (n line : ℕ) (next : Ending) → step_of a ≡ Stop n → on_answer a line next ≡ refused n line
-stops a n line next = go (eqb a.number 0)
+stops : (a : Answer) (line : ℕ) (why : Refused) (next : Ending) → step_of line a ≡ Err why → on_answer a line next ≡ refused why.number why.line
+stops a line why next = go (eqb a.number 0)
   where
-    go : (b : Bool) → cond b (Rows a.value) (Stop a.number) ≡ Stop n → cond b next (refused a.number line) ≡ refused n line
-    go true e = absurd (never _ _ e)
-    go false e = ap (λ (x : ℕ). refused x line) (ap step_number e)
+    go : (b : Bool) → cond {A = Result ℕ Refused} b (Ok a.value) (Err (record { number = a.number; line = line })) ≡ Err why
+        → cond b next (refused a.number line) ≡ refused why.number why.line
+    go true e = absurd (cc)
+    go false e = cc
 
-goes : (a : Answer) (m : ℕ) → step_of a ≡ Rows m → (eqb a.number 0 ≡ true) × (a.value ≡ m)
-goes a m = go (eqb a.number 0) refl
+goes : (a : Answer) (line m : ℕ) → step_of line a ≡ Ok m → (eqb a.number 0 ≡ true) × (a.value ≡ m)
+goes a line m = go (eqb a.number 0) refl
   where
-    go : (b : Bool) → eqb a.number 0 ≡ b → cond b (Rows a.value) (Stop a.number) ≡ Rows m → (eqb a.number 0 ≡ true) × (a.value ≡ m)
-    go true e f = (e, ap step_rows f)
-    go false e f = absurd (never _ _ (sym f))
+    go : (b : Bool) → eqb a.number 0 ≡ b → cond {A = Result ℕ Refused} b (Ok a.value) (Err (record { number = a.number; line = line })) ≡ Ok m
+        → (eqb a.number 0 ≡ true) × (a.value ≡ m)
+    go true e f = (e, cc)
+    go false e f = absurd (cc)
 
 -- One line
 
@@ -81,34 +70,35 @@ pub record Went (s : Setting) (line m : ℕ) (x : List ℕ) (l : Lent) : Type 0 
       ≡ in_front (ops_written s (try_of call l)) (lines_from s (line + 1) xs (leaves s (try_of call l)))
 
 module _ (s : Setting) (line : ℕ) (x : List ℕ) (l : Lent) where
-  pub line_stops : (n : ℕ) (xs : List (List ℕ)) → line_step s (call_line x) l ≡ Stop n → lines_from s line (x ∷ xs) l ≡ refused n line
+  pub line_stops : (why : Refused) (xs : List (List ℕ)) → line_step s line (call_line x) l ≡ Err why
+      → lines_from s line (x ∷ xs) l ≡ refused why.number why.line
   unfolding lines_from
-  line_stops n xs = go (call_line x)
+  line_stops why xs = go (call_line x)
     where
-      go : (p : Line) → line_step s p l ≡ Stop n
+      go : (p : Option CallLine) → line_step s line p l ≡ Err why
           → on_line p line
           (λ c. let t = try_of c l in on_answer (answered s t) line (in_front (ops_written s t) (lines_from s (line + 1) xs (leaves s t))))
-          ≡ refused n line
-      go Other e = ap (λ (k : ℕ). refused k line) (ap step_number e)
-      go (Call kind stamp src dst count) e =
-          let t = try_of (call_with kind stamp src dst count) l in
-          stops (answered s t) n line (in_front (ops_written s t) (lines_from s (line + 1) xs (leaves s t))) e
+          ≡ refused why.number why.line
+      go None e = cc
+      go (Some call) e =
+          let t = try_of (call_of call) l in
+          stops (answered s t) line why (in_front (ops_written s t) (lines_from s (line + 1) xs (leaves s t))) e
 
-  pub line_went : (m : ℕ) → line_step s (call_line x) l ≡ Rows m → Went s line m x l
+  pub line_went : (m : ℕ) → line_step s line (call_line x) l ≡ Ok m → Went s line m x l
   unfolding lines_from
   line_went m = go (call_line x) refl
     where
-      go : (p : Line) → call_line x ≡ p → line_step s p l ≡ Rows m → Went s line m x l
-      go Other q e = absurd (never _ _ (sym e))
-      go (Call kind stamp src dst count) q e =
-          let c = call_with kind stamp src dst count in
-          let g = goes (answered s (try_of c l)) m e in
+      go : (p : Option CallLine) → call_line x ≡ p → line_step s line p l ≡ Ok m → Went s line m x l
+      go None q e = absurd (cc)
+      go (Some call) q e =
+          let c = call_of call in
+          let g = goes (answered s (try_of c l)) line m e in
           let k = taken_try s (try_of c l) g.0 in
           record {
             call = c;
             value = g.1;
             some = omega (arith, g.1, taken_value s (try_of c l) k, op_count_pos c);
-            after = λ other. ap (λ (p : Line). line_after s p other) q;
+            after = λ other. ap (λ (p : Option CallLine). line_after s p other) q;
             goes_on = λ xs. rw (q, g.0);
           }
 
@@ -123,38 +113,38 @@ abbrev pub ending : Setting → List ℕ → Lent → (at line rows : ℕ) → E
 ending s text l at line rows = in_front (so_far l rows) (lines_from s line (lines (drop at text)) (behind_ops rows l))
 
 -- what is known when the line has been taken
-pub record Turn (s : Setting) (at rows : ℕ) (text : List ℕ) (l : Lent) (piece : List ℕ) (step : Step) : Type 0 where
+pub record Turn (s : Setting) (at line rows : ℕ) (text : List ℕ) (l : Lent) (piece : List ℕ) (step : Result ℕ Refused) : Type 0 where
   pub more : at < length text
   pub fits : OP_WIDTH * rows ≤ length l.ops
-  pub line : piece ≡ before 10 (take (length text - at) (drop at text))
-  pub came : step ≡ line_step s (call_line piece) (part_of rows l)
+  pub first : piece ≡ before 10 (take (length text - at) (drop at text))
+  pub came : step ≡ line_step s line (call_line piece) (part_of rows l)
 
 module _
-    {s : Setting} {at rows : ℕ} {text : List ℕ} {l : Lent} {piece : List ℕ} {step : Step}
-    (t : Turn s at rows text l piece step) where
+    {s : Setting} {at line rows : ℕ} {text : List ℕ} {l : Lent} {piece : List ℕ} {step : Result ℕ Refused}
+    (t : Turn s at line rows text l piece step) where
   abbrev first : List ℕ
   first = before 10 (drop at text)
 
   -- the piece is the first line that is left
   piece_is : piece ≡ first
-  piece_is = t.line ∙ ap (before 10) (rest_is text at)
+  piece_is = t.first ∙ ap (before 10) (rest_is text at)
 
-  here : (x : Step) → step ≡ x → line_step s (call_line first) (behind_ops rows l) ≡ x
+  here : (x : Result ℕ Refused) → step ≡ x → line_step s line (call_line first) (behind_ops rows l) ≡ x
   here x e =
-      sym (ap₂ (λ (p : List ℕ) (k : Lent). line_step s (call_line p) k) piece_is (part_whole rows l))
+      sym (ap₂ (λ (p : List ℕ) (k : Lent). line_step s line (call_line p) k) piece_is (part_whole rows l))
       ∙ sym t.came
       ∙ e
 
   -- the line is refused
-  pub turn_stops : (n line : ℕ) → step ≡ Stop n → refused n line ≡ ending s text l at line rows
-  turn_stops n line e =
+  pub turn_stops : (why : Refused) → step ≡ Err why → refused why.number why.line ≡ ending s text l at line rows
+  turn_stops why e =
       sym
       (ap (λ (ls : List (List ℕ)). in_front (so_far l rows) (lines_from s line ls (behind_ops rows l))) (lines_at text at t.more)
-      ∙ ap (in_front (so_far l rows)) (line_stops s line first (behind_ops rows l) n (lines (after 10 (drop at text))) (here (Stop n) e)))
+      ∙ ap (in_front (so_far l rows)) (line_stops s line first (behind_ops rows l) why (lines (after 10 (drop at text))) (here (Err why) e)))
 
-  module _ (m : ℕ) (e : step ≡ Rows m) (line : ℕ) where
+  module _ (m : ℕ) (e : step ≡ Ok m) where
     went : Went s line m first (behind_ops rows l)
-    went = line_went s line first (behind_ops rows l) m (here (Rows m) e)
+    went = line_went s line first (behind_ops rows l) m (here (Ok m) e)
 
     pub turn_fits : (0 < m) × (OP_WIDTH * (rows + m) ≤ length l.ops)
     turn_fits =
@@ -228,14 +218,14 @@ running_start s text l =
       goes_on = front_none (lines_from s 2 (lines text) l);
     }
 
-pub running_turn : {s : Setting} {at rows : ℕ} {text : List ℕ} {l : Lent} {piece : List ℕ} {step : Step} (l₀ : Lent) (line : ℕ)
-    → Running s text l₀ l at line rows → (t : Turn s at rows text l piece step) (m : ℕ) → step ≡ Rows m
+pub running_turn : {s : Setting} {at line rows : ℕ} {text : List ℕ} {l : Lent} {piece : List ℕ} {step : Result ℕ Refused} (l₀ : Lent)
+    → Running s text l₀ l at line rows → (t : Turn s at line rows text l piece step) (m : ℕ) → step ≡ Ok m
     → (bs : Lent) → bs ≡ line_after s (call_line piece) (part_of rows l)
     → (next : ℕ) → next ≤ length text → drop next text ≡ after 10 (drop at text)
     → Running s text l₀ (back_in rows l bs) next (line + 1) (rows + m)
-running_turn l₀ line r t m e bs f next upto q =
-    let fits = turn_fits t m e line in
-    let same = turn_same t m e line bs f in
+running_turn l₀ r t m e bs f next upto q =
+    let fits = turn_fits t m e in
+    let same = turn_same t m e bs f in
     record {
       upto = upto;
       bytes_same = ap (λ (n : Lengths). n.cells) same ∙ r.bytes_same;
@@ -244,5 +234,5 @@ running_turn l₀ line r t m e bs f next upto q =
       accesses_same = ap (λ (n : Lengths). n.accesses) same ∙ r.accesses_same;
       room = omega (arith, fits.1, ap (λ (n : Lengths). n.ops) same);
       few = omega (arith, fits.0, r.few);
-      goes_on = turn_goes t m e line bs f next q ∙ r.goes_on;
+      goes_on = turn_goes t m e bs f next q ∙ r.goes_on;
     }

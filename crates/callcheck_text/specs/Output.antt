@@ -2,7 +2,7 @@
 -- and row count. A refusal of the expansion is passed up unchanged: the whole output is `refused`, tab, number, tab, line number counted
 -- from 1", "A gap that 7 refuses is refused so at line 1; a line of another form, or a missing line 1, is refused so with 10". A missing
 -- line 1 reads as an empty one, which is of another form. Assumes nothing.
-use Rattle.std.specs.Prelude.{◌≡◌, ℕ, ◌+◌, ◌*◌, ◌/◌, ◌^◌, ◌≤◌, ◌<◌, cond, List, [], ◌∷◌, ◌++◌, eqb, leb, length, take, replicate}
+use Rattle.std.specs.Prelude.{◌≡◌, ℕ, ◌+◌, ◌*◌, ◌/◌, ◌^◌, ◌≤◌, ◌<◌, cond, Option, Some, None, List, [], ◌∷◌, ◌++◌, eqb, leb, length, take, replicate}
 use Rattle.answer.specs.declared.Answer.{Answer}
 use Rattle.records.specs.Records.{LIMIT}
 use Rattle.records.specs.RowCount.{row_count}
@@ -16,8 +16,6 @@ use Rattle.chain.specs.Chain.{table_rows, chain_answer, chain_numbers}
 use Rattle.read_back.specs.ReadBack.{live_rows}
 use Rattle.text.specs.Pieces.{before, after}
 use Rattle.text.specs.Lines.{lines, gap_of}
-use Rattle.text.specs.declared.Parsed.{Parsed}
-use Rattle.text.specs.declared.Parsed.TheVariants.{Number, Bad}
 use Rattle.text.specs.RowLines.{row_text, rows_text, passed_text, refused_text}
 use Rattle.callcheck_text.specs.Run.{ROWS, OPS_ROOM, ACCESSES_ROOM, Ending, done, refused, lines_from}
 
@@ -50,9 +48,9 @@ abbrev pub start : Lent
 start = lent (replicate 1024 0) (replicate 1024 0) (replicate OPS_ROOM 0) (replicate ACCESSES_ROOM 0)
 
 -- goes on with the gap of line 1
-abbrev pub on_gap : Parsed → (ℕ → List ℕ) → List ℕ
-on_gap (Number gap) next = cond (leb (2 ^ 32) gap) (refused_text 7 1) (next gap)
-on_gap Bad next = refused_text 10 1
+abbrev pub on_gap : Option ℕ → (ℕ → List ℕ) → List ℕ
+on_gap (Some gap) next = cond (leb (2 ^ 32) gap) (refused_text 7 1) (next gap)
+on_gap None next = refused_text 10 1
 
 -- the whole output
 unfoldable pub output_of : List ℕ → List ℕ
@@ -65,7 +63,7 @@ PrefixDecides = (n : ℕ) (input : List ℕ) → 2995 ≤ n → output_of (take 
 -- where no line is refused the verdict is `passed`, with the rows of the table
 abbrev pub VerdictPasses : Type 0
 VerdictPasses =
-    (input records : List ℕ) (gap : ℕ) → gap_of (before 10 input) ≡ Number gap → gap < 2 ^ 32
+    (input records : List ℕ) (gap : ℕ) → gap_of (before 10 input) ≡ Some gap → gap < 2 ^ 32
     → lines_from (under gap) 2 (lines (after 10 input)) start ≡ done records
     → let rows = length records / OP_WIDTH in output_of input ≡ rows_text 0 rows records ++ passed_text (row_count rows)
 
@@ -84,6 +82,6 @@ pub record RowsPrinted (input records : List ℕ) : Type 0 where
 -- so it is where no line is refused, the records being those of all calls
 abbrev pub LiveRowsPrinted : Type 0
 LiveRowsPrinted =
-    (input records : List ℕ) (gap : ℕ) → gap_of (before 10 input) ≡ Number gap → gap < 2 ^ 32
+    (input records : List ℕ) (gap : ℕ) → gap_of (before 10 input) ≡ Some gap → gap < 2 ^ 32
     → lines_from (under gap) 2 (lines (after 10 input)) start ≡ done records
     → RowsPrinted input records

@@ -1,7 +1,7 @@
 -- The call lines in turn. Document 01: "window 1,024 zero cells, shared by the calls in turn", "A refusal of the expansion is passed up
 -- unchanged", "a line of another form .. is refused so with 10, a call that takes the live rows past 32 with 9; the lowest such line is
 -- named". Assumes nothing.
-use Rattle.std.specs.Prelude.{◌≡◌, ℕ, ◌+◌, ◌-◌, ◌*◌, ◌≤◌, ◌<◌, cond, List, [], ◌∷◌, ◌++◌, eqb, length}
+use Rattle.std.specs.Prelude.{◌≡◌, ℕ, ◌+◌, ◌-◌, ◌*◌, ◌≤◌, ◌<◌, cond, Option, Some, None, List, [], ◌∷◌, ◌++◌, eqb, length}
 use Rattle.answer.specs.declared.Answer.{Answer}
 use Rattle.call.specs.Calls.{call_with}
 use Rattle.call.specs.Calls as calls
@@ -12,8 +12,7 @@ use Rattle.expansion.specs.Refusals.{op_count, answered}
 use Rattle.calls_in_turn.specs.Accepted.{ops_written}
 use Rattle.calls_in_turn.specs.InTurn.{leaves}
 use Rattle.text.specs.Lines.{call_line}
-use Rattle.text.specs.declared.Line.{Line}
-use Rattle.text.specs.declared.Line.TheVariants.{Call, Other}
+use Rattle.text.specs.declared.CallLine.{CallLine}
 
 -- live rows that there may be
 abbrev pub ROWS : ℕ
@@ -41,10 +40,14 @@ in_front records (refused number line) = refused number line
 abbrev pub on_answer : Answer → ℕ → Ending → Ending
 on_answer a line next = cond (eqb a.number 0) next (refused a.number line)
 
+-- the call that a line says
+abbrev pub call_of : CallLine → calls.Call
+call_of c = call_with c.kind c.stamp c.src c.dst c.count
+
 -- goes on with a call; a line of another form is refused with 10
-abbrev pub on_line : Line → ℕ → (calls.Call → Ending) → Ending
-on_line (Call kind stamp src dst count) line next = next (call_with kind stamp src dst count)
-on_line Other line next = refused 10 line
+abbrev pub on_line : Option CallLine → ℕ → (calls.Call → Ending) → Ending
+on_line (Some c) line next = next (call_of c)
+on_line None line next = refused 10 line
 
 -- the lines from the one numbered `line` on, each over what the one before left
 unfoldable pub lines_from : Setting → ℕ → List (List ℕ) → Lent → Ending

@@ -11,22 +11,14 @@ ghost use Rattle.callcheck_text.specs.Run.{NineIsRows};
 ghost use Rattle.callcheck_text.specs.Output.{output_of, PrefixDecides, VerdictPasses, LiveRowsPrinted};
 ghost use Rattle.callcheck_text.specs.Examples.{Examples};
 
-use print::put_calls;
-use text::print::put_refused;
-use text::{NEWLINE, Parsed, head, parse_gap, tail};
+use print::{Output, put_calls};
+use text::{NEWLINE, head, parse_gap, tail};
 
-// What one line comes to: the rows of its call, or the number that refuses it.
+// The lowest line that is refused, and the number that refuses it.
 #[derive(Clone, Copy)]
-pub enum Step {
-    Rows { rows: usize },
-    Stop { number: u64 },
-}
-
-// What all call lines come to: the live rows, or the lowest line that is refused and the number.
-#[derive(Clone, Copy)]
-pub enum Ran {
-    Done { rows: usize },
-    Refused { number: u64, line: u64 },
+pub struct Refused {
+    pub number: u64,
+    pub line: u64,
 }
 
 // The whole output stands at the front of `out`, which is long enough for any; answers how many bytes it has.
@@ -34,14 +26,15 @@ pub fn answer(input: &[u8], out: &mut [u8; 8192]) -> usize
     ensures answer { (result ≡ length (output_of input.now)) × (result ≤ 8192) }
     ensures out { out.new ≡ store out.old 0 (output_of input.now) }
 {
-    let first = parse_gap(head(input, NEWLINE));
-    let Parsed::Number { value: gap } = first else {
-        return put_refused(out, 0, 10, 1);
-    };
-    if 0x1_0000_0000 <= gap {
-        return put_refused(out, 0, 7, 1);
+    let mut output = Output::new();
+    match parse_gap(head(input, NEWLINE)) {
+        None => output.put_refused(10, 1),
+        Some(gap) if 0x1_0000_0000 <= gap => output.put_refused(7, 1),
+        Some(gap) => output = put_calls(gap, tail(input, NEWLINE)),
     }
-    put_calls(out, gap, tail(input, NEWLINE))
+    let text = output.text();
+    out[..text.len()].copy_from_slice(text);
+    text.len()
 }
 
 // What follows from the definition of the output is its contract: the first bytes decide, the verdict of accepted calls is `passed`, the

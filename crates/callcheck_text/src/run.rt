@@ -6,51 +6,41 @@ ghost use Rattle.callcheck_text.specs.Inner.{line_step, line_after};
 ghost use Rattle.callcheck_text.specs.Run.{ROWS, OPS_ROOM, ACCESSES_ROOM, lines_from};
 ghost use Rattle.callcheck_text.specs.Inner.{ending_of, rows_done};
 
-use crate::{Ran, Step};
+use crate::Refused;
 use call::OP_WIDTH;
-use expansion::{ExpansionAnswer, collect_copy_ops, numbers};
+use expansion::{collect_copy_ops, numbers};
 use text::walk::next_line;
-use text::{Line, NEWLINE, head, parse_call};
+use text::{NEWLINE, head, parse_call};
 
-// One line: its call is expanded over the window and into the two buffers.
+// The line numbered `line`: its call is expanded over the window and into the two buffers. The answer is how many rows it has.
 fn run_line(
     gap: u64,
+    line: u64,
     text: &[u8],
     bytes: &mut [u8],
     stamps: &mut [u64],
     ops: &mut [u64],
     accesses: &mut [u64],
-) -> Step
+) -> Result<usize, Refused>
     ensures step { result
-        ≡ line_step (under gap) (call_line text.now) (lent bytes.old stamps.old ops.old accesses.old) }
+        ≡ line_step (under gap) line (call_line text.now) (lent bytes.old stamps.old ops.old accesses.old) }
     ensures slices { lent bytes.new stamps.new ops.new accesses.new
         ≡ line_after (under gap) (call_line text.now) (lent bytes.old stamps.old ops.old accesses.old) }
 {
-    let line = parse_call(text);
-    let Line::Call {
-        kind,
-        stamp,
-        src,
-        dst,
-        count,
-    } = line
-    else {
-        return Step::Stop { number: 10 };
+    let Some(call) = parse_call(text) else {
+        return Err(Refused { number: 10, line });
     };
-    let answer = collect_copy_ops(
-        kind, stamp, src, dst, count, gap, bytes, stamps, ops, accesses,
+    let found = collect_copy_ops(
+        call.kind, call.stamp, call.src, call.dst, call.count, gap, bytes, stamps, ops, accesses,
     );
     // Document 01: "A refusal of the expansion is passed up unchanged".
-    let ExpansionAnswer::Expanded {
-        ops: rows,
-        accesses: _,
-    } = answer
-    else {
-        return Step::Stop {
-            number: numbers(answer).number,
-        };
+    let Ok(expanded) = found else {
+        return Err(Refused {
+            number: numbers(found).number,
+            line,
+        });
     };
-    Step::Rows { rows }
+    Ok(expanded.ops)
 }
 
 // The call lines of a text in turn, numbered from 2 on. Each finds the window as the call before left it, and the part of `ops` that is
@@ -62,7 +52,7 @@ pub fn run_lines(
     stamps: &mut [u64],
     ops: &mut [u64],
     accesses: &mut [u64],
-) -> Ran
+) -> Result<usize, Refused>
     requires { (length ops.old ≡ OPS_ROOM) × (length accesses.old ≡ ACCESSES_ROOM) }
     ensures rows { rows_done result ≤ ROWS }
     ensures ending { ending_of result ops.new
@@ -72,20 +62,11 @@ pub fn run_lines(
     let mut line = 2;
     let mut rows = 0;
     while at < text.len() {
-        let step = run_line(
-            gap,
-            head(&text[at..], NEWLINE),
-            bytes,
-            stamps,
-            &mut ops[OP_WIDTH * rows..],
-            accesses,
-        );
-        match step {
-            Step::Stop { number } => return Ran::Refused { number, line },
-            Step::Rows { rows: more } => rows += more,
-        }
+        let first = head(&text[at..], NEWLINE);
+        let free = &mut ops[OP_WIDTH * rows..];
+        rows += run_line(gap, line, first, bytes, stamps, free, accesses)?;
         line += 1;
         at = next_line(text, at);
     }
-    Ran::Done { rows }
+    Ok(rows)
 }

@@ -51,15 +51,11 @@ pub fn count(
     let n = record_count(calls, HANDED_WIDTH);
     let mut ops = 0;
     let mut accepted = 0;
-    let mut k = 0;
-    while k < n {
+    for k in 0..n {
         let call = record_at(calls, HANDED_WIDTH, k);
         let added = records_of(gap, call, cells, stamped, room - OP_WIDTH * ops, space);
-        if 0 < added {
-            accepted += 1;
-        }
+        accepted += usize::from(0 < added);
         ops += added;
-        k += 1;
     }
     Counts {
         ops,

@@ -59,10 +59,8 @@ pub fn expand_all(
 {
     let n = record_count(calls, HANDED_WIDTH);
     let mut done = 0;
-    let mut k = 0;
-    while k < n {
+    for k in 0..n {
         let call = record_at(calls, HANDED_WIDTH, k);
         done += expand_next(gap, call, done, bytes, stamps, ops, accesses);
-        k += 1;
     }
 }

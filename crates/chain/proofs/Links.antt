@@ -1,23 +1,17 @@
 -- The link rule by what stands before: the four ways in which the code decides it, and what the row before is to it. Assumes nothing.
-use mathlib.Core.Path.{◌≡◌, refl, sym, ap, ◌∙◌}
-use mathlib.Core.Bool.{Bool, true, false, cond, not, ◌&&◌, ◌||◌, and_assoc, and-true, false≢true, true≢false}
+use mathlib.Core.Path.{◌≡◌, refl, sym}
+use mathlib.Core.Bool.{Bool, true, false, cond, not, ◌&&◌, ◌||◌, and_assoc, and-true}
 use mathlib.Core.List.{List, [], ◌∷◌}
-use mathlib.Core.Option.{none, some}
-use Prim.Native.Nat.{ℕ, ◌+◌, ◌*◌, ◌^◌, ◌<◌}
+use Prim.Native.Nat.{ℕ, ◌+◌, ◌^◌, ◌<◌}
 use native.Mathlib.Omega.{arith}
 use borrow.Author.Tests.{eq-eqb, ne_eqb, eqb-true, eqb-false}
 use lib.Dec.{eqb}
-use lib.ListN.{length}
 use Rattle.lists.specs.Lists.{at, same}
-use Rattle.copy_row.specs.Columns.{TIMESTAMP, SRC, SRC_INCR, DST, DST_INCR, COUNT, COUNT_DECR, FIRST, END, IS_SET, IS_WRITE, MU, COLUMNS}
+use Rattle.copy_row.specs.Columns.{TIMESTAMP, SRC, SRC_INCR, DST, DST_INCR, COUNT, COUNT_DECR, FIRST, END, IS_SET, IS_WRITE, MU}
 use Rattle.words.specs.Words.{number}
 use Rattle.copy_meaning.specs.ReadRow.{words_at, halves_at}
-use Rattle.copy_meaning.specs.Inner.{TwoWords, FourHalves}
-use Rattle.row_test.specs.Inner.{Caps}
-use Rattle.chain.specs.Link.{Before, closed, unended, dead, shown, handed_on, linked, before_of, link_fault}
-use Rattle.chain.specs.Inner.{standing, following, Stood, is_unended}
-use Rattle.chain.specs.declared.LinkRefusal.TheVariants.{Broken, NotEnded}
-use Rattle.chain.specs.declared.link.LinkFault.TheVariants.{Linked, Unlinked}
+use Rattle.chain.specs.Link.{closed, unended, dead, shown, handed_on, linked, before_of}
+use Rattle.chain.specs.Inner.{is_unended}
 
 -- Equal numbers, compared word by word
 
@@ -35,15 +29,6 @@ module _ (row previous : List ℕ) where
       → eqb (at row TIMESTAMP) (at previous TIMESTAMP) && eqb (at row (TIMESTAMP + 1)) (at previous (TIMESTAMP + 1))
       ≡ eqb (words_at row TIMESTAMP) (words_at previous TIMESTAMP)
   stamp_same = words_same (at row TIMESTAMP) (at row (TIMESTAMP + 1)) (at previous TIMESTAMP) (at previous (TIMESTAMP + 1))
-
-  pub moved_same : (c h : ℕ) → TwoWords row c → FourHalves previous h
-      → eqb (at row c) (at previous h + 2 ^ 16 * at previous (h + 1)) && eqb (at row (c + 1)) (at previous (h + 2) + 2 ^ 16 * at previous (h + 3))
-      ≡ eqb (words_at row c) (halves_at previous h)
-  moved_same c h words halves =
-      let low = at previous h + 2 ^ 16 * at previous (h + 1) in
-      let high = at previous (h + 2) + 2 ^ 16 * at previous (h + 3) in
-      let joined : number 32 (low ∷ high ∷ []) ≡ halves_at previous h = omega arith in
-      words_same (at row c) (at row (c + 1)) low high words.low (omega (arith, halves.first, halves.second)) ∙ ap (eqb (words_at row c)) joined
 
 -- Seven equal numbers, as the code joins the tests
 
@@ -85,76 +70,26 @@ module _ (row : List ℕ) where
   unfolding linked
   linked_unended previous = cond_and (eqb (at row MU) 1) (same (shown row) (handed_on previous))
 
--- The row before
+-- What a row is to the one after it
 
-pub stood_none : (l : List ℕ) → length l ≡ 0 → Stood l
-unfolding Stood
-stood_none l e h = absurd (omega arith)
-
-pub stood_row : (l : List ℕ) → length l ≡ COLUMNS → Caps l → Stood l
-unfolding Stood
-stood_row l e f h = (e, f)
-
-pub row_stood : (l : List ℕ) → Stood l → 0 < length l → (length l ≡ COLUMNS) × Caps l
-unfolding Stood
-row_stood l s h = s h
-
-pub standing_none : (l : List ℕ) → length l ≡ 0 → standing l ≡ closed
-unfolding standing
-standing_none [] e = refl
-standing_none (x ∷ xs) e = absurd (omega arith)
-
-pub standing_row : (l : List ℕ) → 0 < length l → standing l ≡ before_of l
-unfolding standing
-standing_row [] h = absurd (omega arith)
-standing_row (x ∷ xs) h = refl
-
-module _ (l : List ℕ) (h : 0 < length l) where
-  pub standing_dead : (at l MU ≡ 1 → ⊥) → standing l ≡ dead
+module _ (l : List ℕ) where
+  pub before_dead : (at l MU ≡ 1 → ⊥) → before_of l ≡ dead
   unfolding before_of
-  standing_dead n = standing_row l h ∙ rw (ne_eqb (at l MU) 1 n)
+  before_dead n = rw (ne_eqb (at l MU) 1 n)
 
-  pub standing_ended : at l MU ≡ 1 → at l END ≡ 1 → standing l ≡ closed
+  pub before_ended : at l MU ≡ 1 → at l END ≡ 1 → before_of l ≡ closed
   unfolding before_of
-  standing_ended m e = standing_row l h ∙ rw (eq-eqb (at l MU) 1 m, eq-eqb (at l END) 1 e)
+  before_ended m e = rw (eq-eqb (at l MU) 1 m, eq-eqb (at l END) 1 e)
 
-  pub standing_unended : at l MU ≡ 1 → (at l END ≡ 1 → ⊥) → standing l ≡ unended l
+  pub before_unended : at l MU ≡ 1 → (at l END ≡ 1 → ⊥) → before_of l ≡ unended l
   unfolding before_of
-  standing_unended m e = standing_row l h ∙ rw (eq-eqb (at l MU) 1 m, ne_eqb (at l END) 1 e)
+  before_unended m e = rw (eq-eqb (at l MU) 1 m, ne_eqb (at l END) 1 e)
 
-  pub is_unended_lem : is_unended (standing l) ≡ eqb (at l MU) 1 && not (eqb (at l END) 1)
+  pub unended_before : is_unended (before_of l) ≡ eqb (at l MU) 1 && not (eqb (at l END) 1)
   unfolding before_of
-  is_unended_lem = ap is_unended (standing_row l h) ∙ go (eqb (at l MU) 1) (eqb (at l END) 1)
+  unended_before = go (eqb (at l MU) 1) (eqb (at l END) 1)
     where
       go : (m e : Bool) → is_unended (cond m (cond e closed (unended l)) dead) ≡ m && not e
       go true true = refl
       go true false = refl
       go false e = refl
-
--- The row after, and the list's end
-
-pub following_none : (l : List ℕ) → length l ≡ 0 → following l ≡ none
-unfolding following
-following_none [] e = refl
-following_none (x ∷ xs) e = absurd (omega arith)
-
-pub following_row : (l : List ℕ) → 0 < length l → following l ≡ some l
-unfolding following
-following_row [] h = absurd (omega arith)
-following_row (x ∷ xs) h = refl
-
-pub row_linked : (b : Before) (row : List ℕ) → linked b row ≡ true → link_fault b (some row) ≡ Linked
-row_linked b row e = rw e
-
-pub row_refused : (b : Before) (row : List ℕ) → linked b row ≡ false → link_fault b (some row) ≡ Unlinked Broken
-row_refused b row e = rw e
-
-pub end_refused : (b : Before) → is_unended b ≡ true → link_fault b none ≡ Unlinked NotEnded
-end_refused closed e = absurd (false≢true e)
-end_refused (unended previous) e = refl
-end_refused dead e = absurd (false≢true e)
-
-pub end_linked : (b : Before) → is_unended b ≡ false → link_fault b none ≡ Linked
-end_linked closed e = refl
-end_linked (unended previous) e = absurd (true≢false e)
-end_linked dead e = refl

@@ -9,22 +9,19 @@ use native.Mathlib.Omega.{arith}
 use borrow.Author.Tests.{leb-false, eqb-true, eq-eqb}
 use lib.Dec.{eqb, leb}
 use lib.ListN.{length}
+use Rattle.std.specs.Prelude.{Result, Ok, Err}
 use Rattle.lists.specs.Lists.{All}
 use Rattle.records.proofs.RecordList.{records_whole}
 use Rattle.copy_row.specs.Columns.{COLUMNS}
 use Rattle.copy_residues.specs.RowCheck.{row_fault}
-use Rattle.copy_residues.specs.declared.faults.RowFault.{RowFault}
-use Rattle.copy_residues.specs.declared.faults.RowFault.TheVariants.{Fine, Faulty}
+use Rattle.copy_residues.specs.declared.faults.RowCheckRefusal.{RowCheckRefusal}
 use Rattle.row_test.specs.Inner.{Caps}
 use Rattle.row_test.proofs.Columns.{caps_of_fine}
 use Rattle.row_check.proofs.Answers.{fault_numbered}
 use Rattle.chain.specs.Link.{Before, closed, link_fault, before_of, Unbroken}
-use Rattle.chain.specs.Chain.{table_rows, on_row, on_link, chain_from, chain_answer, refusal_numbers, chain_numbers}
-use Rattle.chain.specs.declared.link.LinkFault.{LinkFault}
-use Rattle.chain.specs.declared.link.LinkFault.TheVariants.{Linked, Unlinked}
+use Rattle.chain.specs.Chain.{table_rows, on_row, on_link, ChainAnswer, chain_from, chain_answer, refusal_numbers, chain_numbers}
+use Rattle.chain.specs.declared.LinkRefusal.{LinkRefusal}
 use Rattle.chain.specs.declared.LinkRefusal.TheVariants.{Broken, NotEnded}
-use Rattle.chain.specs.declared.ChainAnswer.{ChainAnswer}
-use Rattle.chain.specs.declared.ChainAnswer.TheVariants.{Passed, Refused}
 use Rattle.chain.specs.declared.ChainRefusal.{ChainRefusal}
 use Rattle.chain.specs.declared.ChainRefusal.TheVariants.{GapTooLarge, NotRows, Row, Link}
 use Rattle.chain.proofs.Rows.{rows_count_lem, checked}
@@ -41,26 +38,26 @@ refusal_numbered (Link place NotEnded) = refl
 abbrev pub Accepted : ChainAnswer → Type 0
 Accepted v = (chain_numbers v).number ≡ 0
 
-not_accepted : (why : ChainRefusal) → Accepted (Refused why) → ⊥
+not_accepted : (why : ChainRefusal) → Accepted (Err why) → ⊥
 not_accepted why e = false≢true (sym (refusal_numbered why) ∙ eq-eqb _ _ e)
 
-row_accepted : (f : RowFault) (k : ℕ) (v : ChainAnswer) → Accepted (on_row f k v) → (f ≡ Fine) × Accepted v
-row_accepted Fine k v e = (refl, e)
-row_accepted (Faulty why) k v e = absurd (not_accepted (Row k why) e)
+row_accepted : (f : Result (Unit {0}) RowCheckRefusal) (k : ℕ) (v : ChainAnswer) → Accepted (on_row f k v) → (f ≡ Ok tt) × Accepted v
+row_accepted (Ok fine) k v e = (refl, e)
+row_accepted (Err why) k v e = absurd (not_accepted (Row k why) e)
 
-link_accepted : (f : LinkFault) (k : ℕ) (v : ChainAnswer) → Accepted (on_link f k v) → (f ≡ Linked) × Accepted v
-link_accepted Linked k v e = (refl, e)
-link_accepted (Unlinked why) k v e = absurd (not_accepted (Link k why) e)
+link_accepted : (f : Result (Unit {0}) LinkRefusal) (k : ℕ) (v : ChainAnswer) → Accepted (on_link f k v) → (f ≡ Ok tt) × Accepted v
+link_accepted (Ok linked) k v e = (refl, e)
+link_accepted (Err why) k v e = absurd (not_accepted (Link k why) e)
 
 -- The rows of a list that passes: nothing is wrong with any, and no link is refused
 
 module _ (gap : ℕ) where
   abbrev pub FineRow : List ℕ → Type 0
-  FineRow row = row_fault gap row ≡ Fine
+  FineRow row = row_fault gap row ≡ Ok tt
 
   pub accepted_halves : (b : Before) (k : ℕ) (rows : List (List ℕ)) → Accepted (chain_from gap b k rows) → All FineRow rows × Unbroken b rows
   unfolding chain_from
-  accepted_halves b k [] e = (tt, (link_accepted _ k (Passed k) e).0)
+  accepted_halves b k [] e = (tt, (link_accepted _ k (Ok k) e).0)
   accepted_halves b k (row ∷ rows) e =
       let later = chain_from gap (before_of row) (k + 1) rows in
       let f = row_accepted (row_fault gap row) k (on_link (link_fault b (some row)) k later) e in
@@ -69,11 +66,11 @@ module _ (gap : ℕ) where
       ((f.0, halves.0), (l.0, halves.1))
 
   pub halves_pass : (b : Before) (k : ℕ) (rows : List (List ℕ)) → All FineRow rows → Unbroken b rows
-      → chain_from gap b k rows ≡ Passed (k + length rows)
+      → chain_from gap b k rows ≡ Ok (k + length rows)
   unfolding chain_from
-  halves_pass b k [] fine unbroken = rw unbroken (ap Passed (omega arith))
+  halves_pass b k [] fine unbroken = rw unbroken (ap Ok (omega arith))
   halves_pass b k (row ∷ rows) fine unbroken =
-      rw (fine.0, unbroken.0) (halves_pass (before_of row) (k + 1) rows fine.1 unbroken.1 ∙ ap Passed (omega arith))
+      rw (fine.0, unbroken.0) (halves_pass (before_of row) (k + 1) rows fine.1 unbroken.1 ∙ ap Ok (omega arith))
 
 pub record Passing (gap : ℕ) (l : List ℕ) : Type 0 where
   pub small : gap < 2 ^ 32
@@ -86,7 +83,7 @@ unfolding chain_answer
 passing gap l e = go (leb (2 ^ 32) gap) (eqb (length l % COLUMNS) 0) refl refl e
   where
     go : (s t : Bool) → leb (2 ^ 32) gap ≡ s → eqb (length l % COLUMNS) 0 ≡ t
-        → Accepted (cond s (Refused GapTooLarge) (cond t (chain_from gap closed 0 (table_rows l)) (Refused NotRows))) → Passing gap l
+        → Accepted (cond s (Err GapTooLarge) (cond t (chain_from gap closed 0 (table_rows l)) (Err NotRows))) → Passing gap l
     go true t p q a = absurd (omega arith)
     go false false p q a = absurd (omega arith)
     go false true p q a =
@@ -94,11 +91,11 @@ passing gap l e = go (leb (2 ^ 32) gap) (eqb (length l % COLUMNS) 0) refl refl e
         record { small = leb-false _ _ p; whole = eqb-true _ _ q; fine = halves.0; unbroken = halves.1 }
 
 -- all its rows are counted
-pub passing_answer : (gap : ℕ) (l : List ℕ) → Passing gap l → chain_answer gap l ≡ Passed (length l / COLUMNS)
+pub passing_answer : (gap : ℕ) (l : List ℕ) → Passing gap l → chain_answer gap l ≡ Ok (length l / COLUMNS)
 passing_answer gap l p =
     checked gap l p.small p.whole
     ∙ halves_pass gap closed 0 (table_rows l) p.fine p.unbroken
-    ∙ ap Passed (omega (arith, rows_count_lem l p.whole))
+    ∙ ap Ok (omega (arith, rows_count_lem l p.whole))
 
 -- Their columns lie below their caps
 

@@ -2,14 +2,13 @@
 -- FIRST 0, the timestamp, IS_SET and IS_WRITE of the row before, and SRC, DST, COUNT equal to that row's SRC_INCR, DST_INCR,
 -- COUNT_DECR. A dead row may follow only END, a dead row or nothing; a live row never follows a dead one." Document 02: "a link check
 -- (17, 18) over rows that passed". Assumes nothing.
-use Rattle.std.specs.Prelude.{◌≡◌, ℕ, Bool, true, false, cond, List, [], ◌∷◌, eqb}
+use Rattle.std.specs.Prelude.{◌≡◌, ℕ, Bool, true, false, cond, List, [], ◌∷◌, eqb, Result, Ok, Err}
 use Rattle.std.proofs.Math.Option.{Option, none, some}
 use Rattle.lists.specs.Lists.{at, same}
 use Rattle.copy_row.specs.Columns.{TIMESTAMP, SRC, SRC_INCR, DST, DST_INCR, COUNT, COUNT_DECR, FIRST, END, IS_SET, IS_WRITE, MU}
 use Rattle.copy_meaning.specs.ReadRow.{words_at, halves_at}
+use Rattle.chain.specs.declared.LinkRefusal.{LinkRefusal}
 use Rattle.chain.specs.declared.LinkRefusal.TheVariants.{Broken, NotEnded}
-use Rattle.chain.specs.declared.link.LinkFault.{LinkFault}
-use Rattle.chain.specs.declared.link.LinkFault.TheVariants.{Linked, Unlinked}
 
 -- what stands before a row: nothing or END; a live row without END; a dead row
 pub data Before : Type 0 where
@@ -59,17 +58,17 @@ unfoldable pub before_of : List ℕ → Before
 before_of row = cond (eqb (at row MU) 1) (cond (eqb (at row END) 1) closed (unended row)) dead
 
 -- the list's end: "18: the list ends on a live row without END"
-abbrev pub end_fault : Before → LinkFault
-end_fault closed = Linked
-end_fault (unended previous) = Unlinked NotEnded
-end_fault dead = Linked
+abbrev pub end_fault : Before → Result (Unit {0}) LinkRefusal
+end_fault closed = Ok tt
+end_fault (unended previous) = Err NotEnded
+end_fault dead = Ok tt
 
 -- the link check, of the row that follows or of the list's end
-abbrev pub link_fault : Before → Option (List ℕ) → LinkFault
+abbrev pub link_fault : Before → Option (List ℕ) → Result (Unit {0}) LinkRefusal
 link_fault b none = end_fault b
-link_fault b (some row) = cond (linked b row) Linked (Unlinked Broken)
+link_fault b (some row) = cond (linked b row) (Ok tt) (Err Broken)
 
 -- no link of these rows is refused, b before them, nor that of the list's end
 abbrev pub Unbroken : Before → List (List ℕ) → Type 0
-Unbroken b [] = link_fault b none ≡ Linked
-Unbroken b (row ∷ rows) = (link_fault b (some row) ≡ Linked) × Unbroken (before_of row) rows
+Unbroken b [] = link_fault b none ≡ Ok tt
+Unbroken b (row ∷ rows) = (link_fault b (some row) ≡ Ok tt) × Unbroken (before_of row) rows

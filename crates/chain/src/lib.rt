@@ -9,7 +9,7 @@ mod link;
 ghost use Rattle.std.specs.Prelude.{◌≡◌};
 ghost use Rattle.chain.specs.Chain.{chain_answer, link_numbers, refusal_numbers, chain_numbers};
 
-use answer::{Answer, accept, refuse};
+use answer::{Answer, refuse};
 use copy_residues::faults::RowCheckRefusal;
 use row_check::fault_numbers;
 
@@ -36,47 +36,33 @@ pub enum ChainRefusal {
     Link { place: u64, why: LinkRefusal },
 }
 
-#[derive(Clone, Copy)]
-pub enum ChainAnswer {
-    Passed { rows: u64 },
-    Refused { why: ChainRefusal },
-}
-
 // Checks a list of rows of 41 numbers under a gap: how many rows it has, or the first check that fails.
-pub fn chain_check(gap: u64, rows: &[u64]) -> ChainAnswer
+pub fn chain_check(gap: u64, rows: &[u64]) -> Result<u64, ChainRefusal>
     ensures answer { chain_numbers result ≡ chain_numbers (chain_answer gap rows.now) }
 {
     check::check(gap, rows)
 }
 
-// Document 01's number, place and value of a link that is refused.
+// Document 01's number and place of a refusal; the value is the residue's index for 16.
+impl From<ChainRefusal> for Answer {
+    ghost from_gives = { λ why a. a ≡ refusal_numbers why };
+
+    fn from(why: ChainRefusal) -> Answer {
+        match why {
+            ChainRefusal::GapTooLarge => refuse(7, 0),
+            ChainRefusal::NotRows => refuse(13, 0),
+            ChainRefusal::Row { row, why } => fault_numbers(row, why),
+            ChainRefusal::Link { place, why } => link_numbers(place, why),
+        }
+    }
+}
+
+// The same of a link that is refused.
 fn link_numbers(place: u64, why: LinkRefusal) -> Answer
     ensures { result ≡ link_numbers place why }
 {
     match why {
         LinkRefusal::Broken => refuse(17, place),
         LinkRefusal::NotEnded => refuse(18, place),
-    }
-}
-
-// The same of a refusal.
-pub fn refusal_numbers(why: ChainRefusal) -> Answer
-    ensures { result ≡ refusal_numbers why }
-{
-    match why {
-        ChainRefusal::GapTooLarge => refuse(7, 0),
-        ChainRefusal::NotRows => refuse(13, 0),
-        ChainRefusal::Row { row, why } => fault_numbers(row, why),
-        ChainRefusal::Link { place, why } => link_numbers(place, why),
-    }
-}
-
-// And of an answer; the value is the number of rows where nothing is refused.
-pub fn chain_numbers(a: ChainAnswer) -> Answer
-    ensures { result ≡ chain_numbers a }
-{
-    match a {
-        ChainAnswer::Passed { rows } => accept(rows),
-        ChainAnswer::Refused { why } => refusal_numbers(why),
     }
 }

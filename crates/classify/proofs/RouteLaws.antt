@@ -4,6 +4,7 @@ use mathlib.Core.Path.{◌≡◌, refl, ap}
 use mathlib.Core.Bool.{Bool, true, false, cond}
 use mathlib.Core.List.{List}
 use Prim.Native.Nat.{ℕ}
+use Rattle.std.specs.Prelude.{Result, Ok, Err}
 use native.Mathlib.Omega.{arith}
 use Rattle.lists.specs.Lists.{first, at}
 use Rattle.access.specs.Access.{TIMESTAMP, OLD_TIMESTAMP}
@@ -13,8 +14,7 @@ use Rattle.classify.specs.RouteLaws.{RouteLaws, RouteInstances}
 use Rattle.classify.specs.declared.AccessNumbers.{AccessNumbers}
 use Rattle.classify.specs.declared.AccessRoute.{AccessRoute}
 use Rattle.classify.specs.declared.AccessRoute.TheVariants as answered
-use Rattle.classify.specs.declared.ClassifyAnswer.{ClassifyAnswer}
-use Rattle.classify.specs.declared.ClassifyAnswer.TheVariants.{Route, BadRecord}
+use Rattle.classify.specs.declared.BadRecord.{BadRecord}
 use Rattle.classify.specs.declared.MemwRoute.{MemwRoute}
 use Rattle.classify.specs.declared.MemwRoute.TheVariants.{Register, Aligned, General}
 use Rattle.classify.proofs.Stamps.{delta_bounds, register_delta}
@@ -70,11 +70,11 @@ routes_told x y e = step x y (ap (λ (n : AccessNumbers). n.answer.value) e) (ap
     step answered.General answered.Aligned v c = absurd (omega arith)
     step answered.General answered.General v c = refl
 
-answers_told : (a b : ClassifyAnswer) → classify_numbers a ≡ classify_numbers b → a ≡ b
-answers_told (Route x) (Route y) e = ap Route (routes_told x y e)
-answers_told (Route x) BadRecord e = absurd (omega (arith, ap (λ (n : AccessNumbers). n.answer.number) e))
-answers_told BadRecord (Route y) e = absurd (omega (arith, ap (λ (n : AccessNumbers). n.answer.number) e))
-answers_told BadRecord BadRecord e = refl
+answers_told : (a b : Result AccessRoute BadRecord) → classify_numbers a ≡ classify_numbers b → a ≡ b
+answers_told (Ok x) (Ok y) e = ap Ok (routes_told x y e)
+answers_told (Ok x) (Err why) e = absurd (omega (arith, ap (λ (n : AccessNumbers). n.answer.number) e))
+answers_told (Err why) (Ok y) e = absurd (omega (arith, ap (λ (n : AccessNumbers). n.answer.number) e))
+answers_told (Err why) (Err same) e = refl
 
 pub route_laws : RouteLaws
 route_laws =

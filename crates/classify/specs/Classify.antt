@@ -2,7 +2,7 @@
 -- old stamps equal, high words equal, low difference 1 to 65,536; else aligned if the low address word is a multiple of width and the
 -- first width old stamps agree; else general." Document 02: the route's register answer carries "the low stamp difference less one", and
 -- "the Rust's route is the answer without it". Assumes nothing.
-use Rattle.std.specs.Prelude.{ℕ, ◌+◌, ◌-◌, ◌%◌, Bool, cond, not, ◌&&◌, List, eqb, leb}
+use Rattle.std.specs.Prelude.{ℕ, ◌+◌, ◌-◌, ◌%◌, Bool, cond, not, ◌&&◌, List, eqb, leb, Result, Ok, Err}
 use Rattle.answer.specs.Numbers.{accepted, refused}
 use Rattle.lists.specs.Lists.{first, at}
 use Rattle.words.specs.Words.{low_word, high_word}
@@ -12,8 +12,7 @@ use Rattle.access.specs.declared.AccessTable.TheVariants as table
 use Rattle.classify.specs.declared.AccessNumbers.{AccessNumbers}
 use Rattle.classify.specs.declared.AccessRoute.{AccessRoute}
 use Rattle.classify.specs.declared.AccessRoute.TheVariants as answered
-use Rattle.classify.specs.declared.ClassifyAnswer.{ClassifyAnswer}
-use Rattle.classify.specs.declared.ClassifyAnswer.TheVariants.{Route, BadRecord}
+use Rattle.classify.specs.declared.BadRecord.{BadRecord}
 use Rattle.classify.specs.declared.MemwRoute.{MemwRoute}
 use Rattle.classify.specs.declared.MemwRoute.TheVariants.{Register, Aligned, General}
 
@@ -86,8 +85,8 @@ route_number Aligned = 1
 route_number General = 2
 
 -- what `classify_memw` answers: refusal 10 where the record is not whole or a field is outside its values
-unfoldable pub classify_answer : List ℕ → ClassifyAnswer
-classify_answer r = cond (good_access r) (Route (access_route r)) BadRecord
+unfoldable pub classify_answer : List ℕ → Result AccessRoute BadRecord
+classify_answer r = cond (good_access r) (Ok (access_route r)) (Err (record {}))
 
 -- an access that is routed, and one that is refused at place 0, in numbers: document 01's three, and what the route carries
 abbrev pub access_numbers : AccessRoute → AccessNumbers
@@ -97,6 +96,6 @@ abbrev pub access_refused : ℕ → AccessNumbers
 access_refused number = record { answer = refused number 0; delta_less_one = 0 }
 
 -- the numbers of each case
-abbrev pub classify_numbers : ClassifyAnswer → AccessNumbers
-classify_numbers (Route route) = access_numbers route
-classify_numbers BadRecord = access_refused 10
+abbrev pub classify_numbers : Result AccessRoute BadRecord → AccessNumbers
+classify_numbers (Ok route) = access_numbers route
+classify_numbers (Err why) = access_refused 10

@@ -1,6 +1,6 @@
 -- The route that is answered, in document 02's words: it is the Rust's with one number more, which its numbers tell. `route_laws_hold` in
 -- theorems carries them. Assumes nothing.
-use Rattle.std.specs.Prelude.{◌≡◌, List, [], ◌∷◌, ℕ, ◌+◌, ◌^◌, ◌≤◌}
+use Rattle.std.specs.Prelude.{◌≡◌, List, [], ◌∷◌, ℕ, ◌+◌, ◌^◌, ◌≤◌, Result}
 use Rattle.lists.specs.Lists.{at}
 use Rattle.words.specs.Words.{low_word}
 use Rattle.access.specs.Access.{TIMESTAMP, OLD_TIMESTAMP, access_record}
@@ -8,7 +8,7 @@ use Rattle.access.specs.RegisterAccess.{register_access}
 use Rattle.classify.specs.Classify.{classify, access_route, memw_route, classify_numbers}
 use Rattle.classify.specs.declared.AccessRoute.{AccessRoute}
 use Rattle.classify.specs.declared.AccessRoute.TheVariants.{Register, Aligned}
-use Rattle.classify.specs.declared.ClassifyAnswer.{ClassifyAnswer}
+use Rattle.classify.specs.declared.BadRecord.{BadRecord}
 
 pub record RouteLaws : Type 0 where
   -- "the Rust's route is the answer without it"
@@ -18,7 +18,7 @@ pub record RouteLaws : Type 0 where
   -- "0 to 65,535"
   pub in_range : (r : List ℕ) (d : ℕ) → access_route r ≡ Register d → d ≤ 65535
   -- the numbers of an answer leave nothing of it free
-  pub told : (a b : ClassifyAnswer) → classify_numbers a ≡ classify_numbers b → a ≡ b
+  pub told : (a b : Result AccessRoute BadRecord) → classify_numbers a ≡ classify_numbers b → a ≡ b
 
 -- what is answered for a read of x10, which holds 7 since the old stamp
 abbrev pub answered_over : ℕ → ℕ → AccessRoute

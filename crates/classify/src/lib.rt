@@ -4,8 +4,9 @@
 
 pub mod route;
 
-ghost use Rattle.std.specs.Prelude.{◌≡◌};
-ghost use Rattle.classify.specs.Classify.{memw_route, route_number, carried, access_numbers, access_refused, classify_answer, classify_numbers};
+ghost use Rattle.std.specs.Prelude.{◌≡◌, Ok, Err};
+ghost use Rattle.answer.specs.Numbers.{refused};
+ghost use Rattle.classify.specs.Classify.{memw_route, route_number, carried, access_numbers, classify_answer, classify_numbers};
 
 use answer::{Answer, accept, refuse};
 
@@ -27,11 +28,29 @@ pub enum AccessRoute {
     General,
 }
 
-// The route, or document 01's refusal 10.
+// The Rust's route, which is the answer without the number.
+impl From<AccessRoute> for MemwRoute {
+    ghost from_gives = { λ answered route. route ≡ memw_route answered };
+
+    fn from(answered: AccessRoute) -> MemwRoute {
+        match answered {
+            AccessRoute::Register { .. } => MemwRoute::Register,
+            AccessRoute::Aligned => MemwRoute::Aligned,
+            AccessRoute::General => MemwRoute::General,
+        }
+    }
+}
+
+// Document 01's refusal 10: what came is no access record.
 #[derive(Clone, Copy)]
-pub enum ClassifyAnswer {
-    Route(AccessRoute),
-    BadRecord,
+pub struct BadRecord;
+
+impl From<BadRecord> for Answer {
+    ghost from_gives = { λ _ a. a ≡ refused 10 0 };
+
+    fn from(_why: BadRecord) -> Answer {
+        refuse(10, 0)
+    }
 }
 
 // An answer that has a route, in numbers: document 01's three, the value being the Rust's route, and the number that the route carries, 0
@@ -43,24 +62,14 @@ pub struct AccessNumbers {
 }
 
 // The route of one access record.
-pub fn classify_memw(op: &[u64]) -> ClassifyAnswer
+#[tactic(auto, unfolding(crate::specs::Classify::classify_answer))]
+pub fn classify_memw(op: &[u64]) -> Result<AccessRoute, BadRecord>
     ensures answer { classify_numbers result ≡ classify_numbers (classify_answer op.now) }
 {
     if access::good_access(op) {
-        return ClassifyAnswer::Route(route::classify(op));
+        return Ok(route::classify(op));
     }
-    ClassifyAnswer::BadRecord
-}
-
-// The Rust's route, which is the answer without the number.
-pub fn memw_route(route: AccessRoute) -> MemwRoute
-    ensures { result ≡ memw_route route }
-{
-    match route {
-        AccessRoute::Register { delta_less_one: _ } => MemwRoute::Register,
-        AccessRoute::Aligned => MemwRoute::Aligned,
-        AccessRoute::General => MemwRoute::General,
-    }
+    Err(BadRecord)
 }
 
 // A route's number: 0 register, 1 aligned, 2 general.
@@ -68,7 +77,7 @@ pub fn route_number(route: AccessRoute) -> u64
     ensures { result ≡ route_number (memw_route route) }
 {
     match route {
-        AccessRoute::Register { delta_less_one: _ } => 0,
+        AccessRoute::Register { .. } => 0,
         AccessRoute::Aligned => 1,
         AccessRoute::General => 2,
     }
@@ -80,8 +89,7 @@ pub fn carried(route: AccessRoute) -> u64
 {
     match route {
         AccessRoute::Register { delta_less_one } => delta_less_one,
-        AccessRoute::Aligned => 0,
-        AccessRoute::General => 0,
+        AccessRoute::Aligned | AccessRoute::General => 0,
     }
 }
 
@@ -95,22 +103,16 @@ pub fn access_numbers(route: AccessRoute) -> AccessNumbers
     }
 }
 
-// An access that is refused at place 0, in numbers.
-pub fn access_refused(number: u64) -> AccessNumbers
-    ensures { result ≡ access_refused number }
+// An answer that has a route, in numbers: the route's and the one that it carries, or those of the refusal, which carries none.
+pub fn numbers<E: Into<Answer>>(found: Result<AccessRoute, E>) -> AccessNumbers
+    ensures ok { (route : AccessRoute) → found ≡ Ok route → result ≡ access_numbers route }
+    ensures err { (e : E) → found ≡ Err e → E.Into.converts e result.answer × (result.delta_less_one ≡ 0) }
 {
-    AccessNumbers {
-        answer: refuse(number, 0),
-        delta_less_one: 0,
-    }
-}
-
-// Document 01's number, place and value of an answer, and the number that its route carries.
-pub fn numbers(a: ClassifyAnswer) -> AccessNumbers
-    ensures { result ≡ classify_numbers a }
-{
-    match a {
-        ClassifyAnswer::Route(route) => access_numbers(route),
-        ClassifyAnswer::BadRecord => access_refused(10),
+    match found {
+        Ok(route) => access_numbers(route),
+        Err(why) => AccessNumbers {
+            answer: why.into(),
+            delta_less_one: 0,
+        },
     }
 }

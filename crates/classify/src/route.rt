@@ -13,6 +13,7 @@ use access::{
 };
 
 // The route of an access. Register is decided first, then aligned; the rest is general.
+#[tactic(auto, using(access::proofs::Good::good_length, crate::proofs::Stamps::register_delta), unfolding(crate::specs::Classify::classify))]
 pub fn classify(op: &[u64]) -> AccessRoute
     requires { good_access op.now ≡ true }
     ensures { result ≡ access_route op.now }
@@ -31,6 +32,7 @@ pub fn classify(op: &[u64]) -> AccessRoute
 
 // A two-word register access whose words were written together, not long ago. Here and in the tests below nothing branches: which way an
 // access goes is not for a processor to guess.
+#[tactic(auto, unfolding(crate::specs::Classify::is_register_op))]
 pub fn is_register_op(op: &[u64]) -> bool
     requires { length op.now ≡ ACCESS_WIDTH }
     ensures { result ≡ is_register_op op.now }
@@ -42,6 +44,7 @@ pub fn is_register_op(op: &[u64]) -> bool
 }
 
 // High words equal, and the low word 1 to 65,536 above the old one: what one half holds.
+#[tactic(auto, using(crate::proofs::Stamps::difference_in_range, words::proofs::Digits::high_shifted), unfolding(crate::specs::Classify::delta_in_range))]
 pub fn reg_ts_delta_in_range(timestamp: u64, old_ts: u64) -> bool
     ensures { result ≡ delta_in_range timestamp old_ts }
 {
@@ -52,6 +55,7 @@ pub fn reg_ts_delta_in_range(timestamp: u64, old_ts: u64) -> bool
 
 // The low stamp difference less one, of stamps in range: what the register table's row sends to the half-word lookup,
 // `IS_HALFWORD[timestamp_0 - old_timestamp_lo - 1]` in trace_builder.rs.
+#[tactic(auto, using(crate::proofs::Stamps::delta_bounds))]
 pub fn delta_less_one(timestamp: u64, old_ts: u64) -> u64
     requires { delta_in_range timestamp old_ts ≡ true }
     ensures { result ≡ delta_less_one timestamp old_ts }
@@ -60,6 +64,7 @@ pub fn delta_less_one(timestamp: u64, old_ts: u64) -> u64
 }
 
 // An address that is a multiple of the width, and cells that were written together.
+#[tactic(auto, using(access::proofs::Good::good_length, access::proofs::Good::good_width), unfolding(crate::specs::Classify::is_aligned_op))]
 pub fn is_aligned_op(op: &[u64]) -> bool
     requires { good_access op.now ≡ true }
     ensures { result ≡ is_aligned_op op.now }
@@ -77,6 +82,7 @@ fn past_multiple(low: u64, width: u64) -> u64
 }
 
 // Whether the first `width` old stamps agree. All eight are looked at; those that the width leaves out may differ.
+#[tactic(auto, using(crate::proofs::Stamps::stamps_agreeing))]
 fn stamps_agree(op: &[u64]) -> bool
     requires { (length op.now ≡ ACCESS_WIDTH) × (is_width (at op.now WIDTH) ≡ true) }
     ensures { result ≡ stamps_agree op.now }
@@ -92,13 +98,15 @@ fn stamps_agree(op: &[u64]) -> bool
 }
 
 // The table that a route leads to.
-pub fn table_of(route: AccessRoute) -> AccessTable
-    ensures { result ≡ table_of (memw_route route) }
-{
-    match route {
-        AccessRoute::Register { delta_less_one: _ } => AccessTable::Register,
-        AccessRoute::Aligned => AccessTable::Aligned,
-        AccessRoute::General => AccessTable::General,
+impl From<AccessRoute> for AccessTable {
+    ghost from_gives = { λ route t. t ≡ table_of (memw_route route) };
+
+    fn from(route: AccessRoute) -> AccessTable {
+        match route {
+            AccessRoute::Register { .. } => AccessTable::Register,
+            AccessRoute::Aligned => AccessTable::Aligned,
+            AccessRoute::General => AccessTable::General,
+        }
     }
 }
 
@@ -107,8 +115,7 @@ pub fn address_fits(t: AccessTable, address: u64) -> bool
     ensures { result ≡ address_fits t address }
 {
     match t {
-        AccessTable::General => true,
-        AccessTable::Aligned => true,
+        AccessTable::General | AccessTable::Aligned => true,
         AccessTable::Register => (address % 2 == 0) & (address / 2 <= 65535),
     }
 }

@@ -9,6 +9,7 @@ use native.Mathlib.Omega.{arith}
 use borrow.Author.Tests.{not-false, eqb-true, eq-eqb, leb-true, leb-false, lt-leb, le-ltb, ltb-false}
 use lib.Dec.{ltb, leb, eqb}
 use lib.ListN.{length, get_or}
+use Rattle.std.specs.Prelude.{Result, Ok, Err}
 use Rattle.lists.specs.Lists.{first, at}
 use Rattle.lists.proofs.First.{first_none_lem, first_all}
 use Rattle.field.specs.Field.{p}
@@ -17,8 +18,7 @@ use Rattle.copy_row.specs.Columns.{COLUMNS}
 use Rattle.copy_residues.specs.Range.{column_limits, first_out}
 use Rattle.copy_residues.specs.Residues.{residue, RESIDUES}
 use Rattle.copy_residues.specs.RowCheck.{first_residue, row_fault}
-use Rattle.copy_residues.specs.declared.faults.RowFault.{RowFault}
-use Rattle.copy_residues.specs.declared.faults.RowFault.TheVariants.{Fine, Faulty}
+use Rattle.copy_residues.specs.declared.faults.RowCheckRefusal.{RowCheckRefusal}
 use Rattle.copy_residues.specs.declared.faults.RowCheckRefusal.TheVariants.{NotElement, OutOfRange, NotZero}
 use Rattle.copy_meaning.specs.RowIff.{InRange}
 
@@ -27,14 +27,10 @@ pub record Clean (gap : ℕ) (row : List ℕ) : Type 0 where
   pub range : InRange row
   pub zeroes : (i : ℕ) → i < RESIDUES → residue gap row i ≡ 0
 
-abbrev faultless : RowFault → Bool
-faultless Fine = true
-faultless (Faulty why) = false
-
 -- a check that would have named a fault, and was passed
-passed : (t : Bool) (x y : RowFault) → faultless x ≡ false → cond t x y ≡ Fine → (t ≡ false) × (y ≡ Fine)
-passed true x y fault e = absurd (true≢false (sym (ap faultless e) ∙ fault))
-passed false x y fault e = (refl, e)
+passed : (t : Bool) (why : RowCheckRefusal) (y : Result (Unit {0}) RowCheckRefusal) → cond t (Err why) y ≡ Ok tt → (t ≡ false) × (y ≡ Ok tt)
+passed true why y e = absurd (cc)
+passed false why y e = (refl, e)
 
 -- every limit is at most p, so a row in range holds elements
 limits_elements : (c : ℕ) → c < COLUMNS → get_or column_limits c 0 ≤ p
@@ -46,12 +42,12 @@ pub range_elements : (row : List ℕ) → InRange row → (c : ℕ) → c < COLU
 range_elements row range c h = omega (arith, range c h, limits_elements c h)
 
 module _ (gap : ℕ) (row : List ℕ) where
-  pub fine_clean : row_fault gap row ≡ Fine → Clean gap row
+  pub fine_clean : row_fault gap row ≡ Ok tt → Clean gap row
   unfolding row_fault first_large first_out first_residue
   fine_clean e =
-      let a = passed (ltb (first_large row) (length row)) (Faulty NotElement) _ refl e in
-      let b = passed (ltb (first_out row) COLUMNS) (Faulty OutOfRange) _ refl a.1 in
-      let d = passed (ltb (first_residue gap row) RESIDUES) (Faulty (NotZero (first_residue gap row))) _ refl b.1 in
+      let a = passed (ltb (first_large row) (length row)) NotElement _ e in
+      let b = passed (ltb (first_out row) COLUMNS) OutOfRange _ a.1 in
+      let d = passed (ltb (first_residue gap row) RESIDUES) (NotZero (first_residue gap row)) _ b.1 in
       record {
         range = λ c h. leb-false _ _ (first_none_lem (λ c. leb (get_or column_limits c 0) (at row c)) 0 COLUMNS c (ltb-false _ _ b.0) (omega arith) h);
         zeroes =
@@ -59,7 +55,7 @@ module _ (gap : ℕ) (row : List ℕ) where
             eqb-true _ _ (not-false _ (first_none_lem (λ i. not (eqb (residue gap row i) 0)) 0 RESIDUES i (ltb-false _ _ d.0) (omega arith) h));
       }
 
-  pub clean_fine : length row ≡ COLUMNS → Clean gap row → row_fault gap row ≡ Fine
+  pub clean_fine : length row ≡ COLUMNS → Clean gap row → row_fault gap row ≡ Ok tt
   unfolding row_fault first_large first_out first_residue
   clean_fine wide q =
       let elements : first (λ c. leb p (at row c)) 0 (length row) ≡ 0 + length row =

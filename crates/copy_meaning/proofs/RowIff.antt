@@ -7,12 +7,12 @@ use Prim.Native.Nat.{ℕ, ◌^◌, ◌<◌}
 use native.Mathlib.Omega.{arith}
 use lib.Dec.{lit<, lit≤}
 use lib.ListN.{length, replicate}
+use Rattle.std.specs.Prelude.{Ok}
 use Rattle.lists.specs.Lists.{at}
 use Rattle.call.specs.Calls.{Op}
 use Rattle.copy_row.specs.Columns.{MU, COLUMNS}
 use Rattle.copy_row.specs.Rows.{row_of, table_row, padding_row}
 use Rattle.copy_residues.specs.RowCheck.{row_fault}
-use Rattle.copy_residues.specs.declared.faults.RowFault.TheVariants.{Fine}
 use Rattle.copy_meaning.specs.Steps.{LiveStep, DeadStep, RowStep}
 use Rattle.copy_meaning.specs.ReadRow.{op_at}
 use Rattle.copy_meaning.specs.Plain.{Plain}
@@ -25,7 +25,7 @@ use Rattle.copy_meaning.proofs.RowOfPlain.{row_same, row_step}
 use Rattle.copy_meaning.proofs.PlainOfRow.{plain_of_row, range_of_row}
 
 -- no fault says: in range, and the plain facts; neither more nor less
-pub plain_iff : (gap : ℕ) → gap < 2 ^ 32 → (row : List ℕ) → length row ≡ COLUMNS → (row_fault gap row ≡ Fine) ↔ (InRange row × Plain gap row)
+pub plain_iff : (gap : ℕ) → gap < 2 ^ 32 → (row : List ℕ) → length row ≡ COLUMNS → (row_fault gap row ≡ Ok tt) ↔ (InRange row × Plain gap row)
 plain_iff gap g row wide = (
   λ e.
       let q = fine_clean gap row e in
@@ -36,7 +36,7 @@ plain_iff gap g row wide = (
 )
 
 -- the row of a record that meets its step, live or dead
-pub step_passes : (gap mu : ℕ) (o : Op) → gap < 2 ^ 32 → RowStep gap mu o → row_fault gap (row_of mu o) ≡ Fine
+pub step_passes : (gap mu : ℕ) (o : Op) → gap < 2 ^ 32 → RowStep gap mu o → row_fault gap (row_of mu o) ≡ Ok tt
 step_passes gap mu o g d =
     (plain_iff gap g (row_of mu o) (unfold row_of in refl)).1 (range_of_row gap mu o d, plain_of_row gap mu o d)
 
@@ -45,13 +45,13 @@ row_iff gap g row wide = (
   λ e.
       let h = (plain_iff gap g row wide).0 e in
       (row_same gap row wide h.0 h.1, row_step gap row wide h.0 h.1),
-  λ h. subst (λ (r : List ℕ). row_fault gap r ≡ Fine) (sym h.0) (step_passes gap (at row MU) (op_at row) g h.1),
+  λ h. subst (λ (r : List ℕ). row_fault gap r ≡ Ok tt) (sym h.0) (step_passes gap (at row MU) (op_at row) g h.1),
 )
 
-pub live_passes : (gap : ℕ) (o : Op) → gap < 2 ^ 32 → LiveStep gap o → row_fault gap (table_row o) ≡ Fine
+pub live_passes : (gap : ℕ) (o : Op) → gap < 2 ^ 32 → LiveStep gap o → row_fault gap (table_row o) ≡ Ok tt
 live_passes gap o g l = step_passes gap 1 o g l
 
-pub dead_passes : (gap : ℕ) (o : Op) → gap < 2 ^ 32 → DeadStep o → row_fault gap (row_of 0 o) ≡ Fine
+pub dead_passes : (gap : ℕ) (o : Op) → gap < 2 ^ 32 → DeadStep o → row_fault gap (row_of 0 o) ≡ Ok tt
 dead_passes gap o g d = step_passes gap 0 o g d
 
 -- Padding: a dead row of width 8 with 8 left
@@ -86,5 +86,5 @@ padding_step =
       enough = lit≤ tt;
     }
 
-pub padding_passes : (gap : ℕ) → gap < 2 ^ 32 → row_fault gap padding_row ≡ Fine
-padding_passes gap g = subst (λ (r : List ℕ). row_fault gap r ≡ Fine) padding_row_lem (dead_passes gap padding_op g padding_step)
+pub padding_passes : (gap : ℕ) → gap < 2 ^ 32 → row_fault gap padding_row ≡ Ok tt
+padding_passes gap g = subst (λ (r : List ℕ). row_fault gap r ≡ Ok tt) padding_row_lem (dead_passes gap padding_op g padding_step)

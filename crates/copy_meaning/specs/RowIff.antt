@@ -1,6 +1,6 @@
 -- The per-row half of demand 3: a row has nothing wrong exactly if it is the row of the record read off it and that record meets the
 -- plain-number conditions, live or dead. And document 01's clause on DST_RES. Assumes nothing.
-use Rattle.std.specs.Prelude.{◌≡◌, ◌⊎◌, ◌↔◌, List, ℕ, ◌^◌, ◌<◌, ◌≤◌, length, get_or}
+use Rattle.std.specs.Prelude.{◌≡◌, ◌⊎◌, ◌↔◌, List, ℕ, ◌^◌, ◌<◌, ◌≤◌, length, get_or, Ok}
 use Rattle.lists.specs.Lists.{at}
 use Rattle.call.specs.Calls.{Op}
 use Rattle.copy_row.specs.Columns.{DST_RES, FIRST, MU, COLUMNS}
@@ -8,14 +8,13 @@ use Rattle.copy_row.specs.Rows.{row_of, table_row}
 use Rattle.copy_residues.specs.Range.{column_limits}
 use Rattle.copy_residues.specs.Residues.{residue, RESIDUES}
 use Rattle.copy_residues.specs.RowCheck.{row_fault}
-use Rattle.copy_residues.specs.declared.faults.RowFault.TheVariants.{Fine}
 use Rattle.copy_meaning.specs.Steps.{RowStep}
 use Rattle.copy_meaning.specs.ReadRow.{op_at}
 
 abbrev pub RowIff : Type 0
 RowIff =
     (gap : ℕ) → gap < 2 ^ 32 → (row : List ℕ) → length row ≡ COLUMNS
-    → (row_fault gap row ≡ Fine) ↔ ((row ≡ row_of (at row MU) (op_at row)) × RowStep gap (at row MU) (op_at row))
+    → (row_fault gap row ≡ Ok tt) ↔ ((row ≡ row_of (at row MU) (op_at row)) × RowStep gap (at row MU) (op_at row))
 
 -- every column of a row is in range
 abbrev pub InRange : List ℕ → Type 0
@@ -55,4 +54,4 @@ NeverFree =
 abbrev pub OneFilling : Type 0
 OneFilling =
     (gap : ℕ) → gap < 2 ^ 32 → (row other : List ℕ) → length row ≡ COLUMNS → length other ≡ COLUMNS → BesidesDstRes row other
-    → row_fault gap row ≡ Fine → row_fault gap other ≡ Fine → row ≡ other
+    → row_fault gap row ≡ Ok tt → row_fault gap other ≡ Ok tt → row ≡ other

@@ -1,5 +1,4 @@
 pub mod Range
 pub mod Residues
-pub mod Inner
 pub mod RowCheck
 pub mod Answers

@@ -10,9 +10,3 @@ pub enum RowCheckRefusal {
     // 16: a residue not 0, the lowest such
     NotZero { index: u64 },
 }
-
-#[derive(Clone, Copy)]
-pub enum RowFault {
-    Fine,
-    Faulty { why: RowCheckRefusal },
-}

@@ -1,43 +1,51 @@
 // Internal to the workspace, not open to callers: what many residues of a copy row share, worked out once a row. Assumes nothing.
-ghost use Rattle.std.specs.Prelude.{◌≡◌, ◌<◌};
-ghost use Rattle.field.specs.Field.{p};
-ghost use Rattle.field.specs.Rows.{Elements};
-ghost use Rattle.copy_row.specs.Columns.{COLUMNS};
-ghost use Rattle.copy_residues.specs.Inner.{PartsOf};
+ghost use Rattle.std.specs.Prelude.{◌≡◌};
+ghost use Rattle.copy_row.specs.Columns.{SRC, DST};
+ghost use Rattle.copy_residues.specs.Residues.{step, borrow, decr_low, incr_low, incr_high};
 
-use crate::carries;
+use crate::{CopyRow, carries};
 use copy_row::cols;
+use field::element::Element;
 
-// The gap, and what a row's residues share.
+// A row, the gap, and what the row's residues share.
 #[derive(Clone, Copy)]
-pub struct Parts {
-    pub gap: u64,
+pub struct Parts<'a> {
+    pub row: CopyRow<'a>,
+    pub gap: Element,
     // the row's width, 8 - 7 SINGLE
-    pub step: u64,
-    // the two borrows of COUNT - step
-    pub count_low: u64,
-    pub borrow: u64,
-    // the carries of SRC + step and of DST + step
-    pub src_low: u64,
-    pub src_high: u64,
-    pub dst_low: u64,
-    pub dst_high: u64,
+    pub width: Element,
+    // the two borrows of COUNT - width
+    pub count_low: Element,
+    pub borrowed: Element,
+    // the carries of SRC + width and of DST + width
+    pub src_low: Element,
+    pub src_high: Element,
+    pub dst_low: Element,
+    pub dst_high: Element,
+    ghost is_width: { width.value ≡ step row.numbers.now },
+    ghost is_count_low: { count_low.value ≡ decr_low row.numbers.now },
+    ghost is_borrowed: { borrowed.value ≡ borrow row.numbers.now },
+    ghost is_src_low: { src_low.value ≡ incr_low row.numbers.now SRC },
+    ghost is_src_high: { src_high.value ≡ incr_high row.numbers.now SRC },
+    ghost is_dst_low: { dst_low.value ≡ incr_low row.numbers.now DST },
+    ghost is_dst_high: { dst_high.value ≡ incr_high row.numbers.now DST },
 }
 
 // The parts of a row.
-pub fn parts_of(gap: u64, row: &[u64]) -> Parts
-    requires { Elements COLUMNS row.now × (gap < p) }
-    ensures { PartsOf row.now result × (result.gap ≡ gap) }
+pub fn parts_of<'a>(gap: Element, row: CopyRow<'a>) -> Parts<'a>
+    ensures row { result.row.numbers.now ≡ row.entry.numbers.now }
+    ensures gap { result.gap.value ≡ gap.value }
 {
-    let step = carries::step(row);
-    let count_low = carries::decr_low(row, step);
-    let src_low = carries::incr_low(row, cols::SRC_0, step);
-    let dst_low = carries::incr_low(row, cols::DST_0, step);
+    let width = carries::step(row);
+    let count_low = carries::decr_low(row, width);
+    let src_low = carries::incr_low(row, cols::SRC_0, width);
+    let dst_low = carries::incr_low(row, cols::DST_0, width);
     Parts {
+        row,
         gap,
-        step,
+        width,
         count_low,
-        borrow: carries::count_borrow(row, count_low),
+        borrowed: carries::count_borrow(row, count_low),
         src_low,
         src_high: carries::incr_high(row, cols::SRC_0, src_low),
         dst_low,

@@ -31,12 +31,10 @@ pub fn first_out(row: &[u64]) -> usize
     ensures { result ≡ first_out row.now }
 {
     let below = limits(P);
-    let mut c = 0;
-    while c < cols::NUM_COLUMNS {
+    for c in 0..cols::NUM_COLUMNS {
         if below[c] <= row[c] {
             return c;
         }
-        c += 1;
     }
-    c
+    cols::NUM_COLUMNS
 }

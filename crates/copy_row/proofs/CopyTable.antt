@@ -11,8 +11,8 @@ use Rattle.lists.proofs.Store.{store_none}
 use Rattle.lists.proofs.Flat.{flat_none}
 use Rattle.records.specs.Records.{record_count, record_at, first_bad}
 use Rattle.records.specs.Table.{row_at, table_after}
-use Rattle.records.specs.declared.TableAnswer.{TableAnswer}
-use Rattle.records.specs.declared.TableAnswer.TheVariants.{Made}
+use Rattle.records.specs.Table.{TableAnswer}
+use Rattle.std.specs.Prelude.{Ok}
 use Rattle.records.proofs.Records.{all_good, record_whole}
 use Rattle.records.proofs.Table as tables
 use Rattle.call.specs.Ops.{op_of, OP_WIDTH, good_op}
@@ -28,7 +28,7 @@ copy_row_at ops k = row_at OP_WIDTH copy_row padding_row ops k
 
 -- What a made table says of its records
 
-module _ (limit : ℕ) (ops : List ℕ) (room rows : ℕ) (made : copy_answer limit ops room ≡ Made rows) where
+module _ (limit : ℕ) (ops : List ℕ) (room rows : ℕ) (made : copy_answer limit ops room ≡ Ok rows) where
   pub made_facts : tables.MadeFacts limit COLUMNS (record_count OP_WIDTH ops) (first_bad OP_WIDTH good_op ops) room rows
   unfolding copy_answer
   made_facts = tables.made_facts _ _ _ _ _ rows made
@@ -49,14 +49,14 @@ module _ (limit : ℕ) (ops : List ℕ) (room rows : ℕ) (made : copy_answer li
 
 module _ (ops : List ℕ) where
   -- a loop that writes the rows: no row at first, then one more
-  pub no_rows : (table : List ℕ) → copy_after ops (Made 0) table ≡ table
+  pub no_rows : (table : List ℕ) → copy_after ops (Ok 0) table ≡ table
   unfolding copy_after table_after
   no_rows table = rw (flat_none, store_none)
 
-  pub next_row : (table t written : List ℕ) (k : ℕ) → t ≡ copy_after ops (Made k) table → written ≡ copy_row_at ops k
+  pub next_row : (table t written : List ℕ) (k : ℕ) → t ≡ copy_after ops (Ok k) table → written ≡ copy_row_at ops k
       → COLUMNS * k + COLUMNS ≤ length table
       → take (COLUMNS * k) t ++ (written ++ drop (COLUMNS * k + COLUMNS - COLUMNS * k) (drop (COLUMNS * k) t))
-      ≡ copy_after ops (Made (k + 1)) table
+      ≡ copy_after ops (Ok (k + 1)) table
   unfolding copy_after table_after
   next_row table t written k q e fits =
       tables.rows_more COLUMNS OP_WIDTH copy_row padding_row copy_row_wide padding_wide ops table t written k q e fits
@@ -68,7 +68,7 @@ module _ (ops : List ℕ) where
 
   -- row k
   pub made_row : (table : List ℕ) (rows k : ℕ) → COLUMNS * rows ≤ length table → k < rows
-      → record_at COLUMNS (copy_after ops (Made rows) table) k ≡ copy_row_at ops k
+      → record_at COLUMNS (copy_after ops (Ok rows) table) k ≡ copy_row_at ops k
   unfolding copy_after
   made_row table rows k fits h =
       tables.made_row COLUMNS OP_WIDTH copy_row padding_row copy_row_wide padding_wide ops table rows k fits h

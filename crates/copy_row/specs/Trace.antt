@@ -3,7 +3,7 @@ use Rattle.std.specs.Prelude.{ℕ, List, length}
 use Rattle.answer.specs.declared.Answer.{Answer}
 use Rattle.records.specs.Records.{record_count, first_bad}
 use Rattle.records.specs.Table.{table_answer, table_after, TableDone}
-use Rattle.records.specs.declared.TableAnswer.{TableAnswer}
+use Rattle.records.specs.Table.{TableAnswer}
 use Rattle.call.specs.Ops.{good_op, OP_WIDTH, op_of}
 use Rattle.copy_row.specs.Columns.{COLUMNS}
 use Rattle.copy_row.specs.Rows.{table_row, padding_row}

@@ -10,7 +10,7 @@ ghost use Rattle.records.specs.Records.{LIMIT};
 ghost use Rattle.records.specs.Table.{table_numbers};
 ghost use Rattle.copy_row.specs.Trace.{CopyDone};
 
-use records::{LIMIT, TableAnswer};
+use records::{LIMIT, TableRefusal};
 
 // An operation record: one row's piece of a call, with the call as it remains at this row. The kind is its number.
 #[derive(Clone, Copy)]
@@ -30,7 +30,7 @@ pub struct CopyOperation {
 
 // Makes the copy table of at most 65,536 operation records in `table`, 41 numbers to a row: the rows of the records in their order, then
 // padding. Refuses with 8, 10 and 9, in this order, and then writes nothing.
-pub fn generate_copy_trace(ops: &[u64], table: &mut [u64]) -> TableAnswer
+pub fn generate_copy_trace(ops: &[u64], table: &mut [u64]) -> Result<usize, TableRefusal>
     ensures { CopyDone LIMIT 8 ops.now table.old (table_numbers 8 result) table.new }
 {
     trace::make(LIMIT, ops, table)

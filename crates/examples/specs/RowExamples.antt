@@ -1,13 +1,11 @@
 -- Document 01's starred examples on rows: "rows made from Copy records, unnamed fields 0", and a dead row. It names no gap, so they hold
 -- under every gap below 2^32. Each of these rows can stand alone, so "passes" says that the chain check passes the list of that row.
 -- Assumes nothing.
-use Rattle.std.specs.Prelude.{◌≡◌, List, ◌∷◌, ◌++◌, ℕ, ◌-◌, ◌^◌, ◌<◌, replicate}
+use Rattle.std.specs.Prelude.{◌≡◌, List, ◌∷◌, ◌++◌, ℕ, ◌-◌, ◌^◌, ◌<◌, replicate, Ok, Err}
 use Rattle.copy_row.specs.Trace.{copy_row}
 use Rattle.copy_residues.specs.Residues.{residue}
 use Rattle.copy_residues.specs.declared.faults.RowCheckRefusal.TheVariants.{NotZero}
-use Rattle.chain.specs.Chain.{chain_answer}
-use Rattle.chain.specs.declared.ChainAnswer.{ChainAnswer}
-use Rattle.chain.specs.declared.ChainAnswer.TheVariants.{Passed, Refused}
+use Rattle.chain.specs.Chain.{ChainAnswer, chain_answer}
 use Rattle.chain.specs.declared.ChainRefusal.TheVariants.{Row}
 
 -- the row of a Copy record with FIRST, of src, count, width and END
@@ -27,15 +25,15 @@ Gives row i x = (gap : ℕ) → gap < 2 ^ 32 → residue gap row i ≡ x
 
 pub record RowExamples : Type 0 where
   -- "Count 8, width 8, dst 0, FIRST, END: src 2^64 − 9 passes; 2^64 − 8 gives residue 37 = 1"
-  pub below_top : Checks (copy_of (2 ^ 64 - 9) 8 8 1) (Passed 1)
+  pub below_top : Checks (copy_of (2 ^ 64 - 9) 8 8 1) (Ok 1)
   pub to_top : Gives (copy_of (2 ^ 64 - 8) 8 8 1) 37 1
-  pub to_top_refused : Checks (copy_of (2 ^ 64 - 8) 8 8 1) (Refused (Row 0 (NotZero 37)))
+  pub to_top_refused : Checks (copy_of (2 ^ 64 - 8) 8 8 1) (Err (Row 0 (NotZero 37)))
   -- "Count 0, width 8, FIRST: END 1 passes, END 0 gives residue 34 = 1"
-  pub empty_ends : Checks (copy_of 0 0 8 1) (Passed 1)
+  pub empty_ends : Checks (copy_of 0 0 8 1) (Ok 1)
   pub empty_goes_on : Gives (copy_of 0 0 8 0) 34 1
-  pub empty_goes_on_refused : Checks (copy_of 0 0 8 0) (Refused (Row 0 (NotZero 34)))
+  pub empty_goes_on_refused : Checks (copy_of 0 0 8 0) (Err (Row 0 (NotZero 34)))
   -- "Count 4, width 8, FIRST, END: residue 30 = 4"
   pub too_wide : Gives (copy_of 0 4 8 1) 30 4
-  pub too_wide_refused : Checks (copy_of 0 4 8 1) (Refused (Row 0 (NotZero 30)))
+  pub too_wide_refused : Checks (copy_of 0 4 8 1) (Err (Row 0 (NotZero 30)))
   -- "Dead row, COUNT 8, SRC 5, SRC_INCR 13, DST_INCR 8: passes"
-  pub dead : Checks dead_row (Passed 1)
+  pub dead : Checks dead_row (Ok 1)

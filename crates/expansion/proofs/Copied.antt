@@ -12,7 +12,7 @@ use Rattle.call.specs.Calls.{Call}
 use Rattle.call.specs.Cuts.{rest, CutInto}
 use Rattle.call.proofs.Cuts.{nothing_cut, first_pos, first_eight, first_within, rest_cut}
 use Rattle.window.specs.Window.{write_bytes}
-use Rattle.window.proofs.Window.{cells_run}
+use Rattle.window.proofs.WindowLaws.{cells_run}
 use Rattle.expansion_rows.specs.Rows.{row_with, rows_by}
 use Rattle.expansion_rows.specs.Turns.{turn_bytes, row_op, row_ops, pass_bytes}
 use Rattle.expansion_rows.specs.Held.{held_bytes, held_all_bytes}

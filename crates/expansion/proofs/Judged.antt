@@ -4,7 +4,7 @@ use mathlib.Core.Path.{◌≡◌, refl, ap}
 use mathlib.Core.Bool.{Bool, true, false, not, ◌&&◌}
 use Prim.Native.Nat.{ℕ, zero, suc, ◌+◌, ◌-◌, ◌*◌, ◌^◌, ◌≤◌, ◌<◌}
 use native.Mathlib.Omega.{arith}
-use borrow.Author.Tests.{lt-ltb, le-ltb, ltb-true, ltb-false, leb-false, lt-leb, eq-eqb, ne_eqb, eqb-true, eqb-false, not-true, not-false}
+use borrow.Author.Tests.{le-ltb, ltb-false, leb-false, lt-leb, eq-eqb, ne_eqb, eqb-true, eqb-false, not-true, not-false}
 use lib.Dec.{eqb, ltb}
 use Rattle.answer.specs.Numbers.{accepted, refused}
 use Rattle.answer.proofs.Refusals.{none_of, given_of}
@@ -17,13 +17,6 @@ use Rattle.expansion.specs.Refusals.{op_count, access_count, gap_too_large, bad_
 use Rattle.expansion.specs.Refusals.{buffer_short, refusals, answer_by}
 
 -- Tests
-
--- a plain sum above an end, by a difference that does not wrap
-pub past_by_difference : (end at count : ℕ) → at ≤ end → ltb (end - at) count ≡ ltb end (at + count)
-past_by_difference end at count h =
-    same_test (ltb (end - at) count) (ltb end (at + count))
-    (λ e. let l : end - at < count = ltb-true (end - at) count e in lt-ltb end (at + count) (omega arith))
-    (λ e. let l : end < at + count = ltb-true end (at + count) e in lt-ltb (end - at) count (omega arith))
 
 -- a plain sum that is missed, by a difference
 pub apart_by_difference : (dst src gap : ℕ) → gap ≤ dst → eqb (dst - gap) src ≡ eqb dst (src + gap)

@@ -14,7 +14,7 @@ use Rattle.call.specs.Calls.{Call}
 use Rattle.call.specs.Cuts.{rest, CutInto}
 use Rattle.call.proofs.Cuts.{first_eight, first_within, rest_cut}
 use Rattle.window.specs.Window.{write_bytes, write_stamps}
-use Rattle.window.proofs.Window.{length_cells, length_bytes}
+use Rattle.window.proofs.WindowLaws.{length_cells, length_bytes}
 use Rattle.window.proofs.SingleCells.{cells_at_lem, write_below, write_above, write_inside, stamps_below, stamps_above}
 use Rattle.expansion_rows.specs.Rows.{row_with, rows_by}
 use Rattle.expansion_rows.specs.Turns.{inverted, read_stamp, write_stamp, value_at, turn_bytes, turn_stamps, row_op, row_ops, pass_bytes, pass_stamps}

@@ -20,7 +20,7 @@ use Rattle.call.specs.Cuts.{CutInto}
 use Rattle.call.proofs.Cuts.{nothing_cut}
 use Rattle.access.specs.Access.{Access, access_record, ACCESS_WIDTH}
 use Rattle.window.specs.Window.{Window, window_of, read_access, write_access}
-use Rattle.window.proofs.Window.{length_cells}
+use Rattle.window.proofs.WindowLaws.{length_cells}
 use Rattle.expansion_rows.specs.Rows.{Row, rows_by, widths_of}
 use Rattle.expansion_rows.specs.Inner.{rows_of}
 use Rattle.expansion_rows.specs.Turns.{inverted, read_stamp, write_stamp, value_at, turn_accesses, row_ops, pass_bytes, pass_stamps, pass_accesses}
@@ -29,7 +29,7 @@ use Rattle.expansion_rows.specs.Inner.{ops_in}
 use Rattle.expansion_rows.specs.Inner.{CallInside, PassInside, HeldInside}
 use Rattle.expansion_rows.proofs.Widths.{widths_cut}
 use Rattle.expansion_rows.proofs.RowList.{rows_length, rows_none}
-use Rattle.expansion_rows.proofs.Lengths.{row_ops_length, pass_bytes_length, pass_stamps_length, pass_accesses_length}
+use Rattle.expansion_rows.proofs.Lengths.{row_ops_length, pass_bytes_length, pass_accesses_length}
 use Rattle.expansion_rows.proofs.HeldOps.{row_ops_eight, ops_back_lem, flat_ops_length, each_op, copy_held}
 use Rattle.expansion.specs.Refusals.{op_count, access_count}
 use Rattle.expansion.specs.Tries.{Setting, Lengths, Lent, lent}
@@ -75,12 +75,11 @@ module _ (c : Call) (some : 0 < c.count) where
       step false true eb ed e = omega arith
       step false false eb ed e = omega arith
 
-  pub pass_inside : (b s o a : List ℕ) → CallInside c (length b) → length s ≡ length b → OP_WIDTH * op_count c ≤ length o
+  pub pass_inside : (b s o a : List ℕ) → CallInside c (length b) → OP_WIDTH * op_count c ≤ length o
       → ACCESS_WIDTH * access_count c ≤ length a → PassInside c b s o a
-  pass_inside b s o a inside window room space =
+  pass_inside b s o a inside room space =
       record {
         call = inside;
-        window = window;
         room = omega (arith, rows_count_lem);
         space = omega (arith, pass_count (window_of b s));
       }
@@ -145,7 +144,7 @@ module _ (c : Call) (l : Lent) (some : 0 < c.count) where
 
 -- A Copy of some bytes: b₁ to a₁ are what the turns leave
 module _
-    (c : Call) (b s o a : List ℕ) (copy : c.kind ≡ 0) (some : 0 < c.count) (inside : CallInside c (length b)) (window : length s ≡ length b)
+    (c : Call) (b s o a : List ℕ) (copy : c.kind ≡ 0) (some : 0 < c.count) (inside : CallInside c (length b))
     (rows : ℕ) (rows_are : rows ≡ op_count c) (room : OP_WIDTH * op_count c ≤ length o) (space : ACCESS_WIDTH * access_count c ≤ length a)
     (small : Bytes b) (b₁ s₁ o₁ a₁ : List ℕ)
     (eb : b₁ ≡ pass_bytes (rows_of c) b) (es : s₁ ≡ pass_stamps (rows_of c) s)
@@ -168,15 +167,11 @@ module _
   same_b : length b₁ ≡ length b
   same_b = ap length eb ∙ pass_bytes_length (rows_of c) b
 
-  same_s : length s₁ ≡ length s
-  same_s = ap length es ∙ pass_stamps_length (rows_of c) s
-
   double : access_count c ≡ 2 * length (widths_of c)
   double = rw (ne_eqb c.kind 2 (λ q. omega arith))
 
   pub write_inside : ((k : ℕ) → k < rows → HeldInside (c.stamp + 1) (length b₁) (op_of (record_at OP_WIDTH o₁ k)))
       × (OP_WIDTH * rows ≤ length o₁)
-      × (length s₁ ≡ length b₁)
       × (ACCESS_WIDTH * (rows + rows) ≤ length a₁)
   write_inside =
       let held = copy_held (widths_of c) c 1 b (c.stamp + 1) (widths_cut c) inside copy refl small in
@@ -185,7 +180,6 @@ module _
       (subst (λ (n : ℕ). All (HeldInside (c.stamp + 1) n) os) (sym same_b) held) in (
         each_op (HeldInside (c.stamp + 1) (length b₁)) o₁ rows held₁,
         omega (arith, room, rows_are, ap length eo ∙ length_store o 0 (flat_map op_record os)),
-        same_s ∙ window ∙ sym same_b,
         omega (arith, space, double, rows_are, rows_count_lem c some, ap length ea ∙ length_store a 0 _),
       )
 

@@ -2,11 +2,9 @@
 use mathlib.Core.Path.{◌≡◌, refl, sym, ap, ◌∙◌}
 use mathlib.Core.Logic.{◌⊎◌, inl, inr}
 use mathlib.Core.Bool.{Bool, true, false}
-use mathlib.Core.List.{[], ◌∷◌, flat_map}
-use Prim.Native.Nat.{◌*◌, ◌≤◌, ◌<◌}
+use mathlib.Core.List.{flat_map}
+use Prim.Native.Nat.{◌*◌, ◌≤◌}
 use native.Mathlib.Omega.{arith}
-use denote.Enum.Declared.{tag_of}
-use types.Run.{OneOf, miss}
 use borrow.Author.Tests.{eqb-true}
 use lib.Dec.{eqb}
 use Rattle.answer.specs.Numbers.{accepted}
@@ -22,14 +20,13 @@ use Rattle.expansion_rows.specs.Inner.{rows_of}
 use Rattle.expansion_rows.specs.Turns.{pass_bytes, pass_stamps}
 use Rattle.expansion_rows.proofs.Lengths.{pass_bytes_length, pass_stamps_length, held_bytes_length, held_stamps_length}
 use Rattle.expansion.specs.Tries.{Setting, Lent, Lengths, lengths_are, lengths, Try}
-use Rattle.expansion.specs.Refusals.{op_count, refusals, answer_by, answered, with_accesses, ExpansionNumbers, expansion_numbers}
+use Rattle.expansion.specs.Refusals.{op_count, refusals, answer_by, answered, with_accesses, ExpansionNumbers, refusal_number, expansion_numbers}
 use Rattle.expansion.specs.Expansion.{deferred_by, bytes_by, stamps_by, call_ops, call_accesses, expanded, lent_after}
-use Rattle.expansion.specs.declared.ExpansionAnswer.{ExpansionAnswer}
-use Rattle.expansion.specs.declared.ExpansionAnswer.TheVariants.{Expanded, GapTooLarge, BadWindow, LastStamp, NotGapApart, PastIndex}
-use Rattle.expansion.specs.declared.ExpansionAnswer.TheVariants.{OutsideWindow, BufferShort}
-use Rattle.expansion.specs.contracts.ExpansionAnswer.{the_type}
+use Rattle.std.specs.Prelude.{Ok, Err}
+use Rattle.expansion.specs.declared.Expanded.{Expanded}
+use Rattle.expansion.specs.declared.ExpansionRefusal.{ExpansionRefusal}
+use Rattle.expansion.specs.declared.ExpansionRefusal.TheVariants.{GapTooLarge, BadWindow, LastStamp, NotGapApart, PastIndex, OutsideWindow, BufferShort}
 use Rattle.expansion.proofs.Judged.{Fair, Room, accepted_fair, fair_accepted}
-use Rattle.expansion.proofs.Cut.{op_count_pos}
 
 pub record Refused (s : Setting) (t : Try) : Type 0 where
   pub number : eqb (answered s t).number 0 ≡ false
@@ -94,42 +91,25 @@ after_lengths s t = go (outcome s t)
     go (inl r) = ap lengths r.kept
     go (inr k) = ap lengths k.after ∙ expanded_lengths t.call t.slices
 
--- The code's answer: Expanded, which is case 0, has the number 0, and no other has
+-- The code's answer: a refusal has a number, which is not 0
 
-abbrev pub Refusing : ExpansionAnswer → Type 0
-Refusing a = OneOf (1 ∷ 2 ∷ 3 ∷ 4 ∷ 5 ∷ 6 ∷ 7 ∷ []) (tag_of the_type a)
+refusing_number : (why : ExpansionRefusal) → eqb (refusal_number why) 0 ≡ false
+refusing_number GapTooLarge = refl
+refusing_number BadWindow = refl
+refusing_number LastStamp = refl
+refusing_number NotGapApart = refl
+refusing_number PastIndex = refl
+refusing_number OutsideWindow = refl
+refusing_number BufferShort = refl
 
-refusing_number : (a : ExpansionAnswer) → Refusing a → eqb (expansion_numbers a).answer.number 0 ≡ false
-refusing_number (Expanded ops accesses) k = absurd (miss (1 ∷ 2 ∷ 3 ∷ 4 ∷ 5 ∷ 6 ∷ 7 ∷ []) 0 tt k)
-refusing_number GapTooLarge k = refl
-refusing_number BadWindow k = refl
-refusing_number LastStamp k = refl
-refusing_number NotGapApart k = refl
-refusing_number PastIndex k = refl
-refusing_number OutsideWindow k = refl
-refusing_number BufferShort k = refl
+module _ (s : Setting) (t : Try) where
+  -- it is refused
+  pub refused_as : (why : ExpansionRefusal) → expansion_numbers (Err why) ≡ with_accesses t.call (answered s t) → Refused s t
+  refused_as why e =
+      refused_try s t (sym (ap (λ (n : ExpansionNumbers). eqb n.answer.number 0) e) ∙ refusing_number why)
 
-module _ (s : Setting) (t : Try) (a : ExpansionAnswer) (e : expansion_numbers a ≡ with_accesses t.call (answered s t)) where
-  same_answer : answered s t ≡ (expansion_numbers a).answer
-  same_answer = sym (ap (λ (n : ExpansionNumbers). n.answer) e)
-
-  pub refused_as : Refusing a → Refused s t
-  refused_as k = refused_try s t (ap (λ (x : Answer). eqb x.number 0) same_answer ∙ refusing_number a k)
-
-  value : (answered s t).value ≡ (expansion_numbers a).answer.value
-  value = ap (λ (x : Answer). x.value) same_answer
-
-  -- by the number of its records, of which a refusal has none
-  pub taken_by : 0 < (expansion_numbers a).answer.value → Taken s t × ((expansion_numbers a).answer.value ≡ op_count t.call)
-  taken_by some = go (outcome s t)
-    where
-      go : Refused s t ⊎ Taken s t → Taken s t × ((expansion_numbers a).answer.value ≡ op_count t.call)
-      go (inl r) = absurd (omega (arith, some, r.none, value))
-      go (inr k) = (k, sym value ∙ ap (λ (x : Answer). x.value) k.answer)
-
-  pub refused_by_lem : (expansion_numbers a).answer.value ≡ 0 → Refused s t
-  refused_by_lem none = go (outcome s t)
-    where
-      go : Refused s t ⊎ Taken s t → Refused s t
-      go (inl r) = r
-      go (inr k) = absurd (omega (arith, none, value, ap (λ (x : Answer). x.value) k.answer, op_count_pos t.call))
+  -- it is taken, with so many records
+  pub taken_as : (found : Expanded) → expansion_numbers (Ok found) ≡ with_accesses t.call (answered s t) → Taken s t × (found.ops ≡ op_count t.call)
+  taken_as found e =
+      let k = taken_try s t (sym (ap (λ (n : ExpansionNumbers). eqb n.answer.number 0) e)) in
+      (k, ap (λ (n : ExpansionNumbers). n.answer.value) e ∙ ap (λ (x : Answer). x.value) k.answer)

@@ -15,7 +15,7 @@ use Rattle.lists.proofs.Places.{Where, below, inside, above, where_is}
 use Rattle.call.specs.Calls.{Call, Op}
 use Rattle.call.specs.Cuts.{rest, CutInto}
 use Rattle.call.proofs.Cuts.{nothing_cut, first_eight, first_within, rest_cut}
-use Rattle.window.proofs.Window.{length_cells}
+use Rattle.window.proofs.WindowLaws.{length_cells}
 use Rattle.window.proofs.SingleCells.{cells_at_lem}
 use Rattle.expansion_rows.specs.Rows.{Row, rows_by}
 use Rattle.expansion_rows.specs.Turns.{value_at, turn_bytes, row_ops, pass_bytes}

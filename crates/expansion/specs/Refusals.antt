@@ -1,6 +1,6 @@
 -- What the expansion answers. Document 01: "Order: .. expansion 7, 8, 1, 3, 5, 2, 9", "sums are plain, not wrapped". The answer depends
 -- on the call, the gap and the lengths of the four lent slices alone. Assumes nothing.
-use Rattle.std.specs.Prelude.{◌≡◌, ℕ, ◌+◌, ◌-◌, ◌*◌, ◌^◌, Bool, cond, not, ◌&&◌, ◌||◌, List, [], ◌∷◌, eqb, leb, ltb, length}
+use Rattle.std.specs.Prelude.{◌≡◌, ℕ, ◌+◌, ◌-◌, ◌*◌, ◌^◌, Bool, cond, not, ◌&&◌, ◌||◌, List, [], ◌∷◌, eqb, leb, ltb, length, Result, Ok, Err}
 use Rattle.answer.specs.Numbers.{accepted, refused}
 use Rattle.answer.specs.Refusals.{Refusal, refuse, first_of}
 use Rattle.answer.specs.declared.Answer.{Answer}
@@ -9,9 +9,9 @@ use Rattle.call.specs.Ops.{OP_WIDTH}
 use Rattle.access.specs.Access.{ACCESS_WIDTH}
 use Rattle.expansion_rows.specs.Rows.{widths_of}
 use Rattle.expansion.specs.Tries.{Setting, Lengths, Try, lengths}
-use Rattle.expansion.specs.declared.ExpansionAnswer.{ExpansionAnswer}
-use Rattle.expansion.specs.declared.ExpansionAnswer.TheVariants.{Expanded, GapTooLarge, BadWindow, LastStamp, NotGapApart, PastIndex}
-use Rattle.expansion.specs.declared.ExpansionAnswer.TheVariants.{OutsideWindow, BufferShort}
+use Rattle.expansion.specs.declared.Expanded.{Expanded}
+use Rattle.expansion.specs.declared.ExpansionRefusal.{ExpansionRefusal}
+use Rattle.expansion.specs.declared.ExpansionRefusal.TheVariants.{GapTooLarge, BadWindow, LastStamp, NotGapApart, PastIndex, OutsideWindow, BufferShort}
 
 -- how many operation records a call has: one for each row, and one for an empty call
 abbrev pub op_count : Call → ℕ
@@ -88,12 +88,18 @@ with_accesses c a = record { answer = a; accesses = cond (eqb a.number 0) (acces
 abbrev pub refused_with : ℕ → ExpansionNumbers
 refused_with n = record { answer = refused n 0; accesses = 0 }
 
-abbrev pub expansion_numbers : ExpansionAnswer → ExpansionNumbers
-expansion_numbers (Expanded ops accesses) = record { answer = accepted ops; accesses = accesses }
-expansion_numbers GapTooLarge = refused_with 7
-expansion_numbers BadWindow = refused_with 8
-expansion_numbers LastStamp = refused_with 1
-expansion_numbers NotGapApart = refused_with 3
-expansion_numbers PastIndex = refused_with 5
-expansion_numbers OutsideWindow = refused_with 2
-expansion_numbers BufferShort = refused_with 9
+abbrev pub refusal_number : ExpansionRefusal → ℕ
+refusal_number GapTooLarge = 7
+refusal_number BadWindow = 8
+refusal_number LastStamp = 1
+refusal_number NotGapApart = 3
+refusal_number PastIndex = 5
+refusal_number OutsideWindow = 2
+refusal_number BufferShort = 9
+
+abbrev pub expansion_refusal_numbers : ExpansionRefusal → Answer
+expansion_refusal_numbers why = refused (refusal_number why) 0
+
+abbrev pub expansion_numbers : Result Expanded ExpansionRefusal → ExpansionNumbers
+expansion_numbers (Ok found) = record { answer = accepted found.ops; accesses = found.accesses }
+expansion_numbers (Err why) = refused_with (refusal_number why)

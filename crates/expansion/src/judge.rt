@@ -1,25 +1,16 @@
 // Internal to the workspace, not open to callers: the answer for a call, which writes nothing. The limit on cells is a parameter. Assumes
 // nothing but what each `requires` says.
-ghost use Rattle.std.specs.Prelude.{◌≡◌, ◌+◌, ◌-◌, ◌*◌, ◌^◌, ◌≤◌, ◌<◌, ltb, length};
+ghost use Rattle.std.specs.Prelude.{◌≡◌, ◌+◌, ◌-◌, ◌*◌, ◌^◌, ◌≤◌, ◌<◌, length};
 ghost use Rattle.call.specs.Inner.{call_of};
 ghost use Rattle.expansion_rows.specs.Rows.{widths_of};
 ghost use Rattle.expansion.specs.Tries.{setting, lengths_are};
 ghost use Rattle.expansion.specs.Refusals.{op_count, access_count, not_gap_apart, past_index, outside_window, answer_by, with_accesses, expansion_numbers};
 
-use crate::ExpansionAnswer;
+use crate::{Expanded, ExpansionRefusal};
 use access::ACCESS_WIDTH;
 use call::{CopyCall, OP_WIDTH};
 use expansion_rows::rows::row_count;
-
-// Whether `at + count`, a plain sum, is above `end`.
-fn past(end: u64, at: u64, count: u64) -> bool
-    ensures { result ≡ ltb end (at + count) }
-{
-    if end < at {
-        return true;
-    }
-    end - at < count
-}
+use words::past;
 
 // 3: a Set whose dst is not src + gap.
 fn not_gap_apart(call: CopyCall, gap: u64) -> bool
@@ -86,34 +77,34 @@ pub fn expansion_answer(
     stamped: usize,
     ops_room: usize,
     accesses_room: usize,
-) -> ExpansionAnswer
+) -> Result<Expanded, ExpansionRefusal>
     requires { limit ≤ 2 ^ 20 }
     ensures { expansion_numbers result
         ≡ with_accesses (call_of call) (answer_by (setting limit gap) (call_of call) (lengths_are cells stamped ops_room accesses_room)) }
 {
     if 0x1_0000_0000 <= gap {
-        return ExpansionAnswer::GapTooLarge;
+        return Err(ExpansionRefusal::GapTooLarge);
     }
     if (cells != stamped) | (limit < cells) {
-        return ExpansionAnswer::BadWindow;
+        return Err(ExpansionRefusal::BadWindow);
     }
     if call.timestamp == 0xffff_ffff_ffff_ffff {
-        return ExpansionAnswer::LastStamp;
+        return Err(ExpansionRefusal::LastStamp);
     }
     if not_gap_apart(call, gap) {
-        return ExpansionAnswer::NotGapApart;
+        return Err(ExpansionRefusal::NotGapApart);
     }
     if past_index(call) {
-        return ExpansionAnswer::PastIndex;
+        return Err(ExpansionRefusal::PastIndex);
     }
     if outside(call, cells as u64) {
-        return ExpansionAnswer::OutsideWindow;
+        return Err(ExpansionRefusal::OutsideWindow);
     }
     let rows = row_count(call);
     let ops = op_count(call, rows);
     let accesses = access_count(call, rows);
     if (ops_room < OP_WIDTH * ops) | (accesses_room < ACCESS_WIDTH * accesses) {
-        return ExpansionAnswer::BufferShort;
+        return Err(ExpansionRefusal::BufferShort);
     }
-    ExpansionAnswer::Expanded { ops, accesses }
+    Ok(Expanded { ops, accesses })
 }

@@ -4,22 +4,27 @@
 
 ghost use Rattle.std.specs.Prelude.{◌≡◌};
 ghost use Rattle.call.specs.Calls.{call_with};
-ghost use Rattle.expansion.specs.Refusals.{expansion_numbers};
+ghost use Rattle.expansion.specs.Refusals.{expansion_refusal_numbers, expansion_numbers};
 ghost use Rattle.expansion.specs.Tries.{under, lent, try_of};
 ghost use Rattle.expansion.specs.Expansion.{Done};
 
-use answer::Answer;
-use call::{CopyCall, Functionality, kind_number};
+use answer::{Answer, accept, refuse};
+use call::{CopyCall, Functionality};
 use records::LIMIT;
 
 pub mod expand;
 pub mod judge;
 
-// One case for each answer of the expansion.
+// Of a call that is accepted: how many operation and access records are written.
 #[derive(Clone, Copy)]
-pub enum ExpansionAnswer {
-    // nothing is refused: how many operation and access records are written
-    Expanded { ops: usize, accesses: usize },
+pub struct Expanded {
+    pub ops: usize,
+    pub accesses: usize,
+}
+
+// What the expansion refuses.
+#[derive(Clone, Copy)]
+pub enum ExpansionRefusal {
     // 7: the gap is 2^32 or more
     GapTooLarge,
     // 8: the window's slices are unequal or above the limit
@@ -36,35 +41,39 @@ pub enum ExpansionAnswer {
     BufferShort,
 }
 
+impl From<ExpansionRefusal> for Answer {
+    ghost from_gives = { λ why answer. answer ≡ expansion_refusal_numbers why };
+
+    fn from(why: ExpansionRefusal) -> Answer {
+        match why {
+            ExpansionRefusal::GapTooLarge => refuse(7, 0),
+            ExpansionRefusal::BadWindow => refuse(8, 0),
+            ExpansionRefusal::LastStamp => refuse(1, 0),
+            ExpansionRefusal::NotGapApart => refuse(3, 0),
+            ExpansionRefusal::PastIndex => refuse(5, 0),
+            ExpansionRefusal::OutsideWindow => refuse(2, 0),
+            ExpansionRefusal::BufferShort => refuse(9, 0),
+        }
+    }
+}
+
 // Document 01's number, place and value of an answer; the value is the number of operation records.
-pub fn numbers(a: ExpansionAnswer) -> Answer
-    ensures { result ≡ (expansion_numbers a).answer }
+pub fn numbers(found: Result<Expanded, ExpansionRefusal>) -> Answer
+    ensures { result ≡ (expansion_numbers found).answer }
 {
-    match a {
-        ExpansionAnswer::Expanded { ops, accesses: _ } => answer::accept(ops as u64),
-        ExpansionAnswer::GapTooLarge => answer::refuse(7, 0),
-        ExpansionAnswer::BadWindow => answer::refuse(8, 0),
-        ExpansionAnswer::LastStamp => answer::refuse(1, 0),
-        ExpansionAnswer::NotGapApart => answer::refuse(3, 0),
-        ExpansionAnswer::PastIndex => answer::refuse(5, 0),
-        ExpansionAnswer::OutsideWindow => answer::refuse(2, 0),
-        ExpansionAnswer::BufferShort => answer::refuse(9, 0),
+    match found {
+        Ok(expanded) => accept(expanded.ops as u64),
+        Err(why) => Answer::from(why),
     }
 }
 
 // How many operation records an answer tells of; a refusal has none.
-pub fn records_in(answer: ExpansionAnswer) -> usize
-    ensures { result ≡ (expansion_numbers answer).answer.value }
+pub fn records_in(found: Result<Expanded, ExpansionRefusal>) -> usize
+    ensures { result ≡ (expansion_numbers found).answer.value }
 {
-    match answer {
-        ExpansionAnswer::Expanded { ops, accesses: _ } => ops,
-        ExpansionAnswer::GapTooLarge => 0,
-        ExpansionAnswer::BadWindow => 0,
-        ExpansionAnswer::LastStamp => 0,
-        ExpansionAnswer::NotGapApart => 0,
-        ExpansionAnswer::PastIndex => 0,
-        ExpansionAnswer::OutsideWindow => 0,
-        ExpansionAnswer::BufferShort => 0,
+    match found {
+        Ok(expanded) => expanded.ops,
+        Err(_) => 0,
     }
 }
 
@@ -81,13 +90,13 @@ pub fn collect_copy_ops(
     stamps: &mut [u64],
     ops: &mut [u64],
     accesses: &mut [u64],
-) -> ExpansionAnswer
+) -> Result<Expanded, ExpansionRefusal>
     ensures { Done (under gap)
         (try_of (call_with kind timestamp src dst count) (lent bytes.old stamps.old ops.old accesses.old))
         (expansion_numbers result) (lent bytes.new stamps.new ops.new accesses.new) }
 {
     let call = CopyCall {
-        kind: kind_number(kind),
+        kind: u64::from(kind),
         timestamp,
         src,
         dst,

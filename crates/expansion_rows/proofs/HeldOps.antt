@@ -19,7 +19,7 @@ use Rattle.call.specs.Ops.{op_record, op_of, OP_WIDTH}
 use Rattle.call.specs.Cuts.{rest, CutInto}
 use Rattle.call.proofs.Ops.{op_of_record, op_record_length}
 use Rattle.call.proofs.Cuts.{first_eight, first_within, rest_cut}
-use Rattle.window.proofs.Window.{length_cells}
+use Rattle.window.proofs.WindowLaws.{length_cells}
 use Rattle.window.proofs.Bytes.{cells_bytes}
 use Rattle.expansion_rows.specs.Rows.{Row, row_with, rows_by}
 use Rattle.expansion_rows.specs.Turns.{turn_bytes, row_op, row_ops}

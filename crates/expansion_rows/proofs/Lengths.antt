@@ -10,7 +10,7 @@ use Rattle.call.specs.Calls.{Call, Op}
 use Rattle.call.specs.Cuts.{rest}
 use Rattle.access.specs.Access.{Access}
 use Rattle.window.specs.Window.{Window, window_of, write_bytes, write_stamps, read_access, write_access}
-use Rattle.window.proofs.Window.{length_bytes, length_stamps}
+use Rattle.window.proofs.WindowLaws.{length_bytes, length_stamps}
 use Rattle.expansion_rows.specs.Rows.{Row, rows_by}
 use Rattle.expansion_rows.specs.Turns.{inverted, read_stamp, write_stamp, value_at, turn_bytes, turn_stamps, turn_accesses}
 use Rattle.expansion_rows.specs.Turns.{row_ops, pass_bytes, pass_stamps, pass_accesses}

@@ -11,7 +11,7 @@ use Rattle.words.specs.Words.{bit}
 use Rattle.call.specs.Calls.{Call}
 use Rattle.access.specs.Access.{ACCESS_WIDTH, access_record}
 use Rattle.window.specs.Window.{window_of, write_bytes, write_stamps, read_access, write_access, cells_at, memory_access}
-use Rattle.window.proofs.Window.{write_same}
+use Rattle.window.proofs.WindowLaws.{write_same}
 use Rattle.expansion_rows.specs.Turns.{inverted, value_at, turn_bytes, turn_stamps, turn_accesses}
 
 module _ (c : Call) (w : ℕ) (b s : List ℕ) (set : c.kind ≡ 1) where

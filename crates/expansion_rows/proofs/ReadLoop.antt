@@ -23,7 +23,7 @@ use Rattle.expansion_rows.specs.Inner.{PassInside}
 use Rattle.expansion_rows.proofs.Width.{width_cases, width_within}
 use Rattle.expansion_rows.proofs.Widths.{widths_next}
 use Rattle.expansion_rows.proofs.RowList.{rows_from, rows_none, rows_next}
-use Rattle.expansion_rows.proofs.Lengths.{turn_accesses_length}
+use Rattle.expansion_rows.proofs.Lengths.{turn_bytes_length, turn_stamps_length, turn_accesses_length}
 
 -- The first of the rows that are left, and those behind it
 
@@ -85,9 +85,9 @@ pub record PassAt
   pub accesses_go : store accesses (ACCESS_WIDTH * j) (flat_map access_record (pass_accesses (rows_from c f) (window_of bytes stamps)))
       ≡ store accesses₀ 0 (flat_map access_record (pass_accesses (rows_of c₀) (window_of bytes₀ stamps₀)))
 
-pub pass_start : (c₀ : Call) (bytes stamps ops accesses : List ℕ) (per : ℕ) → PassInside c₀ bytes stamps ops accesses
+pub pass_start : (c₀ : Call) (bytes stamps ops accesses : List ℕ) (per : ℕ) → length stamps ≡ length bytes
     → per ≡ 1 + bit (inverted c₀) → PassAt c₀ bytes stamps ops accesses per bytes stamps ops accesses c₀ 1 0 0
-pass_start c₀ bytes stamps ops accesses per p e =
+pass_start c₀ bytes stamps ops accesses per same e =
     record {
       kind = refl;
       stamp = refl;
@@ -95,7 +95,7 @@ pass_start c₀ bytes stamps ops accesses per p e =
       dst_end = refl;
       per_is = e;
       bytes_same = refl;
-      stamps_same = p.window;
+      stamps_same = same;
       ops_same = refl;
       accesses_same = refl;
       rows_left = omega arith;
@@ -201,12 +201,13 @@ module _
     pub pass_turn : (bytes' stamps' op access : List ℕ) (c' : Call)
         → bytes' ≡ turn_bytes c w bytes → stamps' ≡ turn_stamps c w stamps → op ≡ op_record (row_op (row_with c w f) bytes)
         → access ≡ flat_map access_record (turn_accesses c w (window_of bytes stamps)) → c' ≡ rest c w
-        → length bytes' ≡ length bytes → length stamps' ≡ length stamps
         → length op ≡ length (take (op_to - op_from) (drop op_from ops))
         → length access ≡ length (take (access_to - access_from) (drop access_from accesses))
         → PassAt c₀ bytes₀ stamps₀ ops₀ accesses₀ per bytes' stamps' (lent_back ops op_from op_to op) (lent_back accesses access_from access_to access)
         c' 0 (k + 1) (j + per)
-    pass_turn bytes' stamps' op access c' eb es eo ea ec lb ls lo la =
+    pass_turn bytes' stamps' op access c' eb es eo ea ec lo la =
+        let lb : length bytes' ≡ length bytes = ap length eb ∙ turn_bytes_length c w bytes in
+        let ls : length stamps' ≡ length stamps = ap length es ∙ turn_stamps_length c w stamps in
         let a = ahead in
         let q = per_here in
         let n = rows_step c w f e some in

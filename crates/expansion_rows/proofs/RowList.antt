@@ -1,7 +1,10 @@
--- The rows of a list of widths: as many as widths; and those that the expansion has left, the first of them and those behind it. Assumes
--- nothing.
+-- The rows of a list of widths: as many as widths; and those that the expansion has left, the first of them and those behind it. And a test
+-- as the number that code makes of it. Assumes nothing.
 use mathlib.Core.Path.{◌≡◌, refl, ap}
+use mathlib.Core.Bool.{Bool, true, false}
 use mathlib.Core.List.{List, [], ◌∷◌}
+use mir.Val.{bool_byte}
+use Rattle.words.specs.Words.{bit}
 use Prim.Native.Nat.{ℕ, suc, ◌<◌}
 use lib.ListN.{length}
 use Rattle.call.specs.Calls.{Call}
@@ -25,3 +28,7 @@ rows_none c f e = ap (rows_by c f) (widths_none c e)
 pub rows_next : (c : Call) (w f : ℕ) → w ≡ copy_row_width c → 0 < c.count → rows_from c f ≡ row_with c w f ∷ rows_from (rest c w) 0
 unfolding rows_by
 rows_next c w f e h = ap (rows_by c f) (widths_next c w e h)
+
+pub bit_lem : (b : Bool) → bool_byte b ≡ bit b
+bit_lem true = refl
+bit_lem false = refl

@@ -14,8 +14,8 @@ use Rattle.words.specs.Words.{bit, Bytes}
 use Rattle.call.specs.Calls.{Call, Op}
 use Rattle.call.specs.Cuts.{OneOrEight, CutInto, PieceOk, pieces_of, rest, is_last, cut_from, total}
 use Rattle.call.proofs.Cuts.{nothing_cut, first_pos, first_within, rest_cut, cut_whole}
-use Rattle.window.specs.Window.{cells_at, write_bytes}
-use Rattle.window.proofs.Window.{length_cells}
+use Rattle.window.specs.Window.{eight_cells, cells_at, write_bytes}
+use Rattle.window.proofs.WindowLaws.{length_cells}
 use Rattle.window.proofs.Bytes.{cells_bytes, written_bytes}
 use Rattle.expansion_rows.specs.Rows.{rows_by}
 use Rattle.expansion_rows.specs.Turns.{inverted, value_at, turn_bytes, row_ops}
@@ -29,7 +29,7 @@ zeros_ok = record { wide = inl refl; eight = refl; bytes = omega arith; tail = �
 
 -- w cells, and zeros to eight
 cells_ok : (l : List ℕ) (a w : ℕ) → OneOrEight w → Bytes l → PieceOk (record { width = w; value = cells_at l a w })
-unfolding cells_at
+unfolding eight_cells
 cells_ok l a w wide h =
     record { wide = wide; eight = length_cells l a w; bytes = cells_bytes l a w h; tail = λ e. rw e (tail (drop a l)) }
   where

@@ -15,6 +15,7 @@ use Rattle.call.specs.Calls.{Op}
 use Rattle.call.specs.Ops.{op_of, OP_WIDTH}
 use Rattle.access.specs.Access.{ACCESS_WIDTH, access_record}
 use Rattle.window.specs.Window.{window_of}
+use Rattle.window.proofs.WindowLaws.{length_bytes, length_stamps}
 use Rattle.expansion_rows.specs.Held.{held_bytes, held_stamps, held_access, held_all_bytes, held_all_stamps, held_accesses}
 use Rattle.expansion_rows.specs.Inner.{ops_in}
 use Rattle.expansion_rows.specs.Inner.{HeldInside}
@@ -109,10 +110,12 @@ module _
 
     pub write_turn : (bytes' stamps' access : List ℕ)
         → bytes' ≡ held_bytes o bytes → stamps' ≡ held_stamps o stamps → access ≡ access_record (held_access o (window_of bytes stamps))
-        → length bytes' ≡ length bytes → length stamps' ≡ length stamps → length access ≡ length (take (q - p) (drop p accesses))
+        → length access ≡ length (take (q - p) (drop p accesses))
         → WriteAt n j bytes₀ stamps₀ ops accesses₀ bytes' stamps' (lent_back accesses p q access) (k + 1)
     unfolding held_all_bytes held_all_stamps held_accesses
-    write_turn bytes' stamps' access eb es ea lb ls la =
+    write_turn bytes' stamps' access eb es ea la =
+        let lb : length bytes' ≡ length bytes = ap length eb ∙ length_bytes bytes _ _ _ in
+        let ls : length stamps' ≡ length stamps = ap length es ∙ length_stamps stamps _ _ _ in
         let m = window_of bytes stamps in
         let later = window_of (held_bytes o bytes) (held_stamps o stamps) in
         let m' : window_of bytes' stamps' ≡ later = cc (eb, es) in

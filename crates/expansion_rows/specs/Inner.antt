@@ -25,7 +25,6 @@ pub record CallInside (c : Call) (n : ℕ) : Type 0 where
 -- with room for what its rows' turns write
 pub record PassInside (c : Call) (bytes stamps ops accesses : List ℕ) : Type 0 where
   pub call : CallInside c (length bytes)
-  pub window : length stamps ≡ length bytes
   pub room : OP_WIDTH * length (widths_of c) ≤ length ops
   pub space : ACCESS_WIDTH * length (pass_accesses (rows_of c) (window_of bytes stamps)) ≤ length accesses
 

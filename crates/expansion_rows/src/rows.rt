@@ -28,6 +28,7 @@ fn is_wide(call: CopyCall) -> bool
 }
 
 // How many bytes the next row moves.
+#[tactic(auto, unfolding(crate::specs::Rows::copy_row_width))]
 pub fn copy_row_width(call: CopyCall) -> u64
     ensures { result ≡ copy_row_width (call_of call) }
 {
@@ -63,14 +64,7 @@ pub fn row_count(call: CopyCall) -> usize
     n
 }
 
-// END: 1 where the row moves all that remains.
-fn end_flag(count: u64, width: u64) -> u64
-    ensures { result ≡ bit (leb count width) }
-{
-    if count <= width { 1 } else { 0 }
-}
-
-// The operation record of a row.
+// The operation record of a row: END where it moves all that remains.
 pub fn op_record(call: CopyCall, width: u64, first: u64, value: [u8; 8]) -> [u64; 16]
     ensures { result ≡ op_record (record {
       call = call_of call;
@@ -80,7 +74,7 @@ pub fn op_record(call: CopyCall, width: u64, first: u64, value: [u8; 8]) -> [u64
     }) }
 {
     let v = byte_words(value);
-    let end = end_flag(call.count, width);
+    let end = u64::from(call.count <= width);
     [
         call.timestamp,
         call.src,

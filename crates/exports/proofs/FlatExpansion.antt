@@ -4,11 +4,14 @@ use mathlib.Core.Bool.{true, false}
 use mathlib.Core.List.{List, [], ◌∷◌}
 use Prim.Native.Nat.{ℕ}
 use borrow.Author.Tests.{eq-eqb, ne_eqb}
-use Rattle.answer.specs.Numbers.{refused}
+use native.Mathlib.Omega.{arith}
+use Rattle.answer.specs.Numbers.{accepted, refused}
 use Rattle.answer.specs.declared.Answer.{Answer}
 use Rattle.call.specs.Calls.{no_kind}
 use Rattle.expansion.specs.Tries.{under, Lent, Try}
-use Rattle.expansion.specs.Refusals.{ExpansionNumbers}
+use Rattle.expansion.specs.Refusals.{ExpansionNumbers, refusal_number}
+use Rattle.expansion.specs.declared.ExpansionRefusal.{ExpansionRefusal}
+use Rattle.expansion.specs.declared.ExpansionRefusal.TheVariants.{GapTooLarge, BadWindow, LastStamp, NotGapApart, PastIndex, OutsideWindow, BufferShort}
 use Rattle.expansion.specs.Expansion.{Done}
 use Rattle.exports.specs.FlatExpansion.{flat_numbers, flat_after, FlatDone}
 
@@ -36,13 +39,24 @@ module _ (gap : ℕ) (t : Try) (counts : List ℕ) where
         let number = ap (λ (x : Answer). x.number) answer in
         record { answer = answer; slices = left; counts = rw (ne_eqb (flat_numbers gap t).answer.number 0 (λ z. other (number ∙ z))) }
 
-    pub taken_flat : r.number ≡ 0 → (accesses : ℕ) → accesses ≡ n.accesses → FlatDone gap t counts r after (r.value ∷ accesses ∷ [])
-    taken_flat none accesses q =
-        let number = ap (λ (x : Answer). x.number) answer in
-        let value = ap (λ (x : Answer). x.value) answer in
+    pub taken_flat : (ops accesses : ℕ) → r ≡ accepted ops → accesses ≡ n.accesses → FlatDone gap t counts r after (ops ∷ accesses ∷ [])
+    taken_flat ops accesses is q =
+        let told = sym is ∙ answer in
+        let number = ap (λ (x : Answer). x.number) told in
+        let value = ap (λ (x : Answer). x.value) told in
         let count = q ∙ ap (λ (x : ExpansionNumbers). x.accesses) same in
         record {
           answer = answer;
           slices = left;
-          counts = rw (eq-eqb (flat_numbers gap t).answer.number 0 (sym number ∙ none)) (λ i. value i ∷ count i ∷ []);
+          counts = rw (eq-eqb (flat_numbers gap t).answer.number 0 (sym number)) (λ i. value i ∷ count i ∷ []);
         }
+
+-- a refusal of the expansion has a number
+pub refusal_is_none : (why : ExpansionRefusal) → refusal_number why ≡ 0 → ⊥
+refusal_is_none GapTooLarge z = omega arith
+refusal_is_none BadWindow z = omega arith
+refusal_is_none LastStamp z = omega arith
+refusal_is_none NotGapApart z = omega arith
+refusal_is_none PastIndex z = omega arith
+refusal_is_none OutsideWindow z = omega arith
+refusal_is_none BufferShort z = omega arith

@@ -1,19 +1,27 @@
 -- The ways out of the flat register step, by what the code has tested. Assumes nothing.
-use mathlib.Core.Path.{◌≡◌, sym, ◌∙◌}
+use mathlib.Core.Path.{◌≡◌, refl, sym, ◌∙◌}
 use mathlib.Core.Bool.{true, false}
 use mathlib.Core.List.{List}
 use Prim.Native.Nat.{ℕ, ◌-◌, ◌^◌, ◌≤◌, ◌<◌}
 use native.Mathlib.Omega.{arith}
 use borrow.Author.Tests.{eq-eqb, ne_eqb, lt-ltb, le-ltb}
-use Rattle.answer.specs.Numbers.{refused}
+use Rattle.std.specs.Prelude.{Result, Ok, Err}
+use Rattle.answer.specs.Numbers.{accepted, refused}
 use Rattle.answer.specs.declared.Answer.{Answer}
 use Rattle.answer.proofs.Parts.{number_same}
 use Rattle.lists.specs.Lists.{at}
 use Rattle.call.specs.Calls.{Call, no_kind, kind_of}
 use Rattle.call.specs.declared.Functionality.{Functionality}
-use Rattle.registers.specs.Step.{register_step, step_numbers}
+use Rattle.registers.specs.Step.{register_step, step_refusal_numbers, step_numbers}
+use Rattle.registers.specs.declared.StepRefusal.{StepRefusal}
 use Rattle.registers.specs.declared.RegisterState.{RegisterState}
 use Rattle.exports.specs.FlatRegisters.{STATE_INDEX, state_of, state_numbers, flat_step, flat_answer, FlatStepped}
+
+-- what a step answers, in numbers
+pub told : (found : Result ℕ StepRefusal) (r : Answer) → ((v : ℕ) → found ≡ Ok v → r ≡ accepted v)
+    → ((why : StepRefusal) → found ≡ Err why → r ≡ step_refusal_numbers why) → r ≡ step_numbers found
+told (Ok v) r ok err = ok v refl
+told (Err why) r ok err = err why refl
 
 module _ (c : Call) (l records : List ℕ) where
   pub kind_refused : no_kind c.kind ≡ true → flat_answer c l ≡ refused 10 0

@@ -4,10 +4,12 @@ ghost use Rattle.std.specs.Prelude.{◌≡◌, [], ◌∷◌, ◌++◌, eqb, len
 ghost use Rattle.access.specs.Access.{ACCESS_WIDTH};
 ghost use Rattle.access.specs.Tables.{REGISTER_WIDTH};
 ghost use Rattle.reg_access.specs.RegAccess.{built, pushed};
-ghost use Rattle.exports.specs.FlatAccess.{FlatPushed};
+ghost use Rattle.classify.specs.Classify.{memw_route, route_number};
+ghost use Rattle.exports.specs.FlatAccess.{record_over, FlatPushed};
 
 use access::REGISTER_WIDTH;
-use answer::{Answer, refuse};
+use answer::{Answer, accept, refuse};
+use classify::{AccessRoute, route_number};
 use lists::slices::put;
 
 // The route of the access of the register at `reg_addr`, or 10 for an `is_read` above 1, then 11; the record goes to `record`.
@@ -38,19 +40,24 @@ pub fn push_reg_access(
         old_timestamp,
         is_read == 1,
     );
-    let found = access.answer;
-    let told = reg_access::numbers(found);
-    let answer = told.answer;
-    if answer.number != 0 {
-        return answer;
+    match access.answer {
+        Ok(route) => {
+            *record = written_over(route, access.written, lent);
+            accept(route_number(route))
+        }
+        Err(why) => why.into(),
     }
-    let list = access.written;
-    if answer.value != 0 {
-        *record = list;
-        return answer;
+}
+
+// The record of a route, over what was lent: the register table's has 8 numbers, the others 29.
+#[tactic(auto, unfolding(crate::specs::FlatAccess::record_over))]
+fn written_over(route: AccessRoute, list: [u64; 29], before: [u64; 29]) -> [u64; 29]
+    ensures { result ≡ record_over (route_number (memw_route route)) list before }
+{
+    match route {
+        AccessRoute::Register { .. } => register_front(list, before),
+        AccessRoute::Aligned | AccessRoute::General => list,
     }
-    *record = register_front(list, lent);
-    answer
 }
 
 // The register table's 8 numbers, and the others as they were.

@@ -1,12 +1,9 @@
 // `collect_copy_ops` for callers that have numbers and slices only: the kind as a number, and both counts in an array. Assumes nothing.
-ghost use Rattle.std.specs.Prelude.{◌≡◌};
-ghost use Rattle.expansion.specs.Refusals.{expansion_numbers};
 ghost use Rattle.expansion.specs.Tries.{lent, try_of};
 ghost use Rattle.exports.specs.FlatExpansion.{FlatDone};
 
-use answer::{Answer, refuse};
+use answer::{Answer, accept, refuse};
 use call::{kind_of, no_kind};
-use expansion::ExpansionAnswer;
 
 // Expands a call over a window, or 10 for a kind above 2, then 7, 8, 1, 3, 5, 2 and 9.
 pub fn collect_copy_ops(
@@ -41,26 +38,11 @@ pub fn collect_copy_ops(
         ops,
         accesses,
     );
-    let answer = expansion::numbers(found);
-    if answer.number != 0 {
-        return answer;
-    }
-    *counts = [answer.value, access_count(found)];
-    answer
-}
-
-// How many access records an answer tells of.
-fn access_count(a: ExpansionAnswer) -> u64
-    ensures { result ≡ (expansion_numbers a).accesses }
-{
-    match a {
-        ExpansionAnswer::Expanded { ops: _, accesses } => accesses as u64,
-        ExpansionAnswer::GapTooLarge => 0,
-        ExpansionAnswer::BadWindow => 0,
-        ExpansionAnswer::LastStamp => 0,
-        ExpansionAnswer::NotGapApart => 0,
-        ExpansionAnswer::PastIndex => 0,
-        ExpansionAnswer::OutsideWindow => 0,
-        ExpansionAnswer::BufferShort => 0,
+    match found {
+        Ok(expanded) => {
+            *counts = [expanded.ops as u64, expanded.accesses as u64];
+            accept(expanded.ops as u64)
+        }
+        Err(why) => why.into(),
     }
 }

@@ -48,8 +48,7 @@ pub fn collect_copy_register_ops(
         count,
         state_of(flat),
     );
-    let found = step.answer;
-    let answer = registers::numbers(found);
+    let answer = answer::numbers(step.answer);
     if answer.number != 0 {
         return answer;
     }
@@ -99,7 +98,7 @@ fn state_numbers(state: RegisterState) -> [u64; 68]
     let values = state.values;
     let stamps = state.stamps;
     let rest = [
-        state.index as u64,
+        u64::from(state.index),
         state.index_stamp,
         state.pc,
         state.pc_stamp,

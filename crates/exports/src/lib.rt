@@ -32,28 +32,28 @@ use records::tables::record_count;
 pub fn field_add(a: u64, b: u64) -> Answer
     ensures answer { result ≡ field_numbers (add_answer a b) }
 {
-    field::numbers(field::field_add(a, b))
+    answer::numbers(field::field_add(a, b))
 }
 
 // a - b modulo p, or 14.
 pub fn field_sub(a: u64, b: u64) -> Answer
     ensures answer { result ≡ field_numbers (sub_answer a b) }
 {
-    field::numbers(field::field_sub(a, b))
+    answer::numbers(field::field_sub(a, b))
 }
 
 // a * b modulo p, or 14.
 pub fn field_mul(a: u64, b: u64) -> Answer
     ensures answer { result ≡ field_numbers (mul_answer a b) }
 {
-    field::numbers(field::field_mul(a, b))
+    answer::numbers(field::field_mul(a, b))
 }
 
 // The first `calls` calls of the load of `s`, or 19, 9; the value is the number of calls.
 pub fn generate_load(s: u64, calls: u64, out: &mut [u64]) -> Answer
     ensures { LoadDone s calls out.old result out.new }
 {
-    load::numbers(load::generate_load(s, calls, out))
+    answer::numbers(load::generate_load(s, calls, out))
 }
 
 // Two lists of calls made into one, or 8, 10, 20, 9; the value is the number of calls.
@@ -74,7 +74,7 @@ pub fn generate_copy_trace(ops: &[u64], table: &mut [u64]) -> Answer
 pub fn copy_residue(gap: u64, row: &[u64], number: u64) -> Answer
     ensures answer { result ≡ residue_numbers (residue_answer gap row.now number) }
 {
-    copy_residues::residue_numbers(copy_residues::residue(gap, row, number))
+    answer::numbers(copy_residues::residue(gap, row, number))
 }
 
 // The general table of the access records, or 8, 10, 9; the value is the number of rows.
@@ -102,21 +102,21 @@ pub fn generate_memw_register_trace(records: &[u64], table: &mut [u64]) -> Answe
 pub fn memw_residue(row: &[u64], number: u64) -> Answer
     ensures answer { result ≡ memw_residue_numbers (memw_residue_answer General row.now number) }
 {
-    memw_residues::memw_residue_numbers(memw_residues::memw_residue(row, number))
+    answer::numbers(memw_residues::memw_residue(row, number))
 }
 
 // Residue `number` of a row of the aligned table, or 12, 13, 14.
 pub fn memw_aligned_residue(row: &[u64], number: u64) -> Answer
     ensures answer { result ≡ memw_residue_numbers (memw_residue_answer Aligned row.now number) }
 {
-    memw_residues::memw_residue_numbers(memw_residues::memw_aligned_residue(row, number))
+    answer::numbers(memw_residues::memw_aligned_residue(row, number))
 }
 
 // Residue `number` of a row of the register table, or 12, 13, 14.
 pub fn memw_register_residue(row: &[u64], number: u64) -> Answer
     ensures answer { result ≡ memw_residue_numbers (memw_residue_answer Register row.now number) }
 {
-    memw_residues::memw_residue_numbers(memw_residues::memw_register_residue(row, number))
+    answer::numbers(memw_residues::memw_register_residue(row, number))
 }
 
 // The row check of one copy row, with no neighbours, or 7, 13, 14, 15, 16; the value is 0.
@@ -130,7 +130,7 @@ pub fn row_check(gap: u64, row: &[u64]) -> Answer
 pub fn chain_check(gap: u64, rows: &[u64]) -> Answer
     ensures answer { result ≡ chain_numbers (chain_answer gap rows.now) }
 {
-    chain::chain_numbers(chain::chain_check(gap, rows))
+    answer::numbers(chain::chain_check(gap, rows))
 }
 
 // Read-back of a row list, or the chain check's refusals, then 9; the value is the number of operation records, and `counts` has it and
@@ -160,15 +160,17 @@ pub fn route_accesses(
     ensures { FlatRouted accesses.now (lists register.old aligned.old general.old)
         counts.old result (lists register.new aligned.new general.new) counts.new }
 {
-    let routed = routing::numbers(
-        8,
-        routing::route_accesses(accesses, register, aligned, general),
-    );
-    if routed.number != 0 {
-        return answer::refuse(routed.number, routed.place);
+    match routing::route_accesses(accesses, register, aligned, general) {
+        Ok(routed) => {
+            *counts = [
+                routed.register as u64,
+                routed.aligned as u64,
+                routed.general as u64,
+            ];
+            answer::accept(record_count(accesses, ACCESS_WIDTH) as u64)
+        }
+        Err(why) => routing::refusal_numbers(8, why),
     }
-    *counts = [routed.register, routed.aligned, routed.general];
-    answer::accept(record_count(accesses, ACCESS_WIDTH) as u64)
 }
 
 // The lookups of the access records, two bytes for each that goes to the register table, or 8, 10, 11, 9; the value is the number of pairs.

@@ -4,28 +4,86 @@
 ghost use Rattle.std.specs.Prelude.{◌≡◌, ◌+◌, ◌*◌, ◌/◌, ◌%◌, ◌^◌, ◌<◌};
 ghost use Rattle.field.specs.Field.{p, add_p, sub_p, mul_p, bit_p};
 
-use std::num::wrapping_add_u64;
+use std::ops::{Add, Mul, Sub};
 
 pub const P: u64 = 18446744069414584321;
 
 // 2^-32. The constants of the count's borrow, which are products of it, stand in specs/Constants: no code computes with them.
 pub const INV_SHIFT_32: u64 = 18446744065119617026;
 
-// a + b, with no sum above 2^64 on the way.
-pub fn add(a: u64, b: u64) -> u64
-    requires { (a < p) × (b < p) }
-    ensures { (result ≡ add_p a b) × (result < p) }
-{
-    let room = P - b;
-    if a < room { a + b } else { a - room }
+// A number below p.
+#[derive(Clone, Copy)]
+pub struct Element {
+    pub value: u64,
+    ghost below_p: { value < p },
 }
 
-// a - b.
-pub fn sub(a: u64, b: u64) -> u64
-    requires { (a < p) × (b < p) }
-    ensures { (result ≡ sub_p a b) × (result < p) }
-{
-    if b <= a { a - b } else { a + (P - b) }
+pub const ZERO: Element = Element { value: 0 };
+
+pub const ONE: Element = Element { value: 1 };
+
+// With no sum above 2^64 on the way.
+impl Add for Element {
+    type Output = Element;
+
+    ghost add_gives = { λ a b r. r.value ≡ add_p a.value b.value };
+
+    #[tactic(auto, unfolding(crate::specs::Field::add_p))]
+    fn add(self, b: Element) -> Element {
+        let room = P - b.value;
+        Element {
+            value: if self.value < room {
+                self.value + b.value
+            } else {
+                self.value - room
+            },
+        }
+    }
+}
+
+impl Sub for Element {
+    type Output = Element;
+
+    ghost sub_gives = { λ a b r. r.value ≡ sub_p a.value b.value };
+
+    #[tactic(auto, unfolding(crate::specs::Field::sub_p))]
+    fn sub(self, b: Element) -> Element {
+        Element {
+            value: if b.value <= self.value {
+                self.value - b.value
+            } else {
+                self.value + (P - b.value)
+            },
+        }
+    }
+}
+
+// At once where the first factor is 0: most gates of a right row are shut.
+impl Mul for Element {
+    type Output = Element;
+
+    ghost mul_gives = { λ a b r. r.value ≡ mul_p a.value b.value };
+
+    #[tactic(auto, using(crate::proofs::Laws::zero_mul_p))]
+    fn mul(self, b: Element) -> Element {
+        if self.value == 0 {
+            return self;
+        }
+        product(self.value, b.value)
+    }
+}
+
+impl Element {
+    // x(1 - x), at once for the bits 0 and 1, which a right row holds.
+    #[tactic(auto, using(crate::proofs::Laws::bit_zero), unfolding(crate::specs::Field::bit_p))]
+    pub fn is_bit(self) -> Element
+        ensures { result.value ≡ bit_p self.value }
+    {
+        if self.value < 2 {
+            return ZERO;
+        }
+        self * (ONE - self)
+    }
 }
 
 // hi * 2^64 + lo modulo p, by 2^64 = 2^32 - 1 and 2^96 = -1: the low word of hi counts 2^32 - 1 times, its high word is taken away.
@@ -61,28 +119,15 @@ pub fn low(a: u64, b: u64) -> u64
     let a1 = a / 0x1_0000_0000;
     let b0 = b % 0x1_0000_0000;
     let b1 = b / 0x1_0000_0000;
-    let middle = wrapping_add_u64(a0 * b1, a1 * b0);
-    wrapping_add_u64(middle << 32, a0 * b0)
+    let middle = (a0 * b1).wrapping_add(a1 * b0);
+    (middle << 32).wrapping_add(a0 * b0)
 }
 
 // a * b, for any two numbers.
-pub fn mul(a: u64, b: u64) -> u64
-    ensures { (result ≡ mul_p a b) × (result < p) }
+fn product(a: u64, b: u64) -> Element
+    ensures { result.value ≡ mul_p a b }
 {
-    reduce(high(a, b), low(a, b))
-}
-
-// a * b, at once where a is 0: most gates of a right row are shut.
-pub fn times(a: u64, b: u64) -> u64
-    ensures { (result ≡ mul_p a b) × (result < p) }
-{
-    if a == 0 { 0 } else { mul(a, b) }
-}
-
-// x(1 - x), at once for the bits 0 and 1, which a right row holds.
-pub fn is_bit(x: u64) -> u64
-    requires { x < p }
-    ensures { (result ≡ bit_p x) × (result < p) }
-{
-    if x < 2 { 0 } else { mul(x, sub(1, x)) }
+    Element {
+        value: reduce(high(a, b), low(a, b)),
+    }
 }

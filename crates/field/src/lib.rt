@@ -5,71 +5,63 @@
 pub mod element;
 pub mod rows;
 
-ghost use Rattle.std.specs.Prelude.{◌≡◌};
-ghost use Rattle.field.specs.Answers.{first_none, add_answer, sub_answer, mul_answer, field_numbers};
+ghost use Rattle.std.specs.Prelude.{◌≡◌, Err, IfOk, IfErr};
+ghost use Rattle.answer.specs.Numbers.{refused};
+ghost use Rattle.field.specs.Answers.{elements_answer, add_answer, sub_answer, mul_answer, field_numbers};
 
-use answer::{Answer, accept, refuse};
-use element::P;
+use answer::{Answer, refuse};
+use element::{Element, P};
 
-// An element, or which of the two inputs is none.
+// Which of the numbers asked about is no element: the lowest such index.
 #[derive(Clone, Copy)]
-pub enum FieldAnswer {
-    Element(u64),
-    NotElement { place: u64 },
+pub struct NotElement {
+    pub place: u64,
 }
 
-// The index of the lowest of two numbers that is no element, or 2.
-fn first_none(a: u64, b: u64) -> u64
-    ensures { result ≡ first_none a b }
+// Document 01's refusal 14.
+impl From<NotElement> for Answer {
+    ghost from_gives = { λ why a. a ≡ refused 14 why.place };
+
+    fn from(why: NotElement) -> Answer {
+        refuse(14, why.place)
+    }
+}
+
+// Both as elements, or the lowest index of one that is none.
+#[tactic(auto, using(crate::proofs::Answers::first_refused, crate::proofs::Answers::second_refused))]
+fn both(a: u64, b: u64) -> Result<(Element, Element), NotElement>
+    ensures ok { IfOk result (λ r. (r.0.value ≡ a) × (r.1.value ≡ b)) }
+    ensures err { IfErr result (λ why. Err why ≡ elements_answer a b) }
 {
     if P <= a {
-        return 0;
+        return Err(NotElement { place: 0 });
     }
     if P <= b {
-        return 1;
+        return Err(NotElement { place: 1 });
     }
-    2
+    Ok((Element { value: a }, Element { value: b }))
 }
 
 // a + b modulo p.
-pub fn field_add(a: u64, b: u64) -> FieldAnswer
+pub fn field_add(a: u64, b: u64) -> Result<u64, NotElement>
     ensures answer { field_numbers result ≡ field_numbers (add_answer a b) }
 {
-    let place = first_none(a, b);
-    if place < 2 {
-        return FieldAnswer::NotElement { place };
-    }
-    FieldAnswer::Element(element::add(a, b))
+    let (a, b) = both(a, b)?;
+    Ok((a + b).value)
 }
 
 // a - b modulo p.
-pub fn field_sub(a: u64, b: u64) -> FieldAnswer
+pub fn field_sub(a: u64, b: u64) -> Result<u64, NotElement>
     ensures answer { field_numbers result ≡ field_numbers (sub_answer a b) }
 {
-    let place = first_none(a, b);
-    if place < 2 {
-        return FieldAnswer::NotElement { place };
-    }
-    FieldAnswer::Element(element::sub(a, b))
+    let (a, b) = both(a, b)?;
+    Ok((a - b).value)
 }
 
 // a * b modulo p.
-pub fn field_mul(a: u64, b: u64) -> FieldAnswer
+pub fn field_mul(a: u64, b: u64) -> Result<u64, NotElement>
     ensures answer { field_numbers result ≡ field_numbers (mul_answer a b) }
 {
-    let place = first_none(a, b);
-    if place < 2 {
-        return FieldAnswer::NotElement { place };
-    }
-    FieldAnswer::Element(element::mul(a, b))
-}
-
-// Document 01's number, place and value of an answer.
-pub fn numbers(a: FieldAnswer) -> Answer
-    ensures { result ≡ field_numbers a }
-{
-    match a {
-        FieldAnswer::Element(value) => accept(value),
-        FieldAnswer::NotElement { place } => refuse(14, place),
-    }
+    let (a, b) = both(a, b)?;
+    Ok((a * b).value)
 }

@@ -2,8 +2,7 @@
 -- nothing.
 use Rattle.std.specs.Prelude.{ℕ, List}
 use Rattle.records.specs.Records.{record_count, first_bad}
-use Rattle.records.specs.Table.{table_answer}
-use Rattle.records.specs.declared.TableAnswer.{TableAnswer}
+use Rattle.records.specs.Table.{TableAnswer, table_answer}
 use Rattle.kinds.specs.Kinds.{kind_width, good_of_kind}
 use Rattle.kinds.specs.declared.RecordKind.{RecordKind}
 

@@ -6,7 +6,7 @@ ghost use Rattle.kinds.specs.Kinds.{kind_width, good_of_kind};
 ghost use Rattle.kinds.specs.Inner.{kind_answer};
 
 use crate::{RecordKind, good_record, width_of};
-use records::TableAnswer;
+use records::TableRefusal;
 use records::tables::{record_at, record_count, table_answer};
 
 // The lowest of the n records of w numbers that is not good, or n.
@@ -14,14 +14,12 @@ pub fn first_bad(kind: RecordKind, list: &[u64], w: usize, n: usize) -> usize
     requires { (w ≡ kind_width kind) × (n ≡ record_count (kind_width kind) list.now) }
     ensures { result ≡ first_bad (kind_width kind) (good_of_kind kind) list.now }
 {
-    let mut k = 0;
-    while k < n {
+    for k in 0..n {
         if !good_record(kind, record_at(list, w, k)) {
             return k;
         }
-        k += 1;
     }
-    k
+    n
 }
 
 // The answer for a list of records, at most `limit` of them, rows of `v` numbers and a lent table of `room` numbers. A list that is too
@@ -32,14 +30,14 @@ pub fn kind_answer(
     v: usize,
     list: &[u64],
     room: usize,
-) -> TableAnswer
+) -> Result<usize, TableRefusal>
     requires { (limit ≤ 2 ^ 20) × (v ≤ 64) }
     ensures { result ≡ kind_answer kind limit v list.now room }
 {
     let w = width_of(kind);
     let n = record_count(list, w);
     if limit < n {
-        return TableAnswer::TooManyRecords;
+        return Err(TableRefusal::TooManyRecords);
     }
     let bad = first_bad(kind, list, w, n);
     table_answer(v, n, bad, room)

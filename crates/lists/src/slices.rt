@@ -8,11 +8,7 @@ pub fn put(dst: &mut [u64], src: &[u64])
     requires { length dst.old ≡ length src.now }
     ensures { dst.new ≡ src.now }
 {
-    let mut i = 0;
-    while i < dst.len() {
-        dst[i] = src[i];
-        i += 1;
-    }
+    dst.copy_from_slice(src);
 }
 
 // Stores `part` into `list` from index `at` on.
@@ -27,18 +23,14 @@ pub fn put_at(list: &mut [u64], at: usize, part: &[u64])
 pub fn clear(row: &mut [u64])
     ensures { row.new ≡ replicate (length row.old) 0 }
 {
-    let mut i = 0;
-    while i < row.len() {
-        row[i] = 0;
-        i += 1;
-    }
+    row.fill(0);
 }
 
 // The number at index i, 0 past the end.
 pub fn number(list: &[u64], i: usize) -> u64
     ensures { result ≡ at list.now i }
 {
-    if i < list.len() { list[i] } else { 0 }
+    list.get(i).copied().unwrap_or(0)
 }
 
 // One more of `j`, if it is wanted.
@@ -46,8 +38,5 @@ pub fn one_more(wanted: bool, j: usize) -> usize
     requires { j < 2 ^ 63 }
     ensures { result ≡ one_more wanted j }
 {
-    if wanted {
-        return j + 1;
-    }
-    j
+    j + usize::from(wanted)
 }

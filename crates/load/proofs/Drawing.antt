@@ -6,23 +6,21 @@ use mathlib.Core.List.{[], ◌∷◌}
 use Prim.Native.Nat.{ℕ, zero, suc, ◌+◌, ◌*◌, ◌/◌, ◌%◌, ◌^◌, ◌≤◌}
 use native.Mathlib.Nat.{add-zero, mod-add-mod}
 use native.Mathlib.Omega.{arith}
-use borrow.Author.Tests.{eq-eqb, ne_eqb}
 use lib.Dec.{eqb}
-use Rattle.words.specs.Words.{wrap_add}
 use Rattle.call.specs.Flat.{handed_numbers}
 use Rattle.load.specs.Load.{stepped, state_after, draw, kind_drawn, count_drawn, src_drawn, dst_drawn, indexed, index_at, replaced, load_call}
-use Rattle.load.specs.Inner.{drawn_from, dst_from, drawn_call}
-use Rattle.load.specs.declared.draws.Drawn.{Drawn}
+use Rattle.load.specs.Inner.{stepped_by, drawn_call}
+use Rattle.load.specs.declared.draws.Load.{Load}
 
--- One step, and a draw of it
+-- One step
 
-pub step_by_low : (s low next : ℕ) → low ≡ s * 6364136223846793005 % 2 ^ 64 → next ≡ wrap_add low 1442695040888963407 → next ≡ stepped s
-unfolding stepped
-step_by_low s low next e f = f ∙ ap (λ x. (x + 1442695040888963407) % 2 ^ 64) e ∙ mod-add-mod _ _ _
+pub stepped_once : (s : ℕ) → (s * 6364136223846793005 % 2 ^ 64 + 1442695040888963407) % 2 ^ 64 ≡ state_after s 1
+unfolding state_after stepped
+stepped_once s = mod-add-mod _ _ _
 
-pub step_drawn : (s next limit : ℕ) → next ≡ stepped s → record { value = next / 2 ^ 32 % limit; state = next } ≡ drawn_from s limit
-unfolding draw state_after
-step_drawn s next limit e = λ i. record { value = e i / 2 ^ 32 % limit; state = e i }
+pub drawn_once : (s next : ℕ) → next ≡ state_after s 1 → next / 2 ^ 32 ≡ draw s 0
+unfolding draw
+drawn_once s next e = ap (λ x. x / 2 ^ 32) e
 
 -- More steps
 
@@ -47,53 +45,41 @@ step_at s n state e = ap (λ x. state_after x 1) e ∙ state_more s n 1
 draw_at : (s n state : ℕ) → state ≡ state_after s n → draw state 0 ≡ draw s n
 draw_at s n state e = ap (λ x. draw x 0) e ∙ draw_more s n 0 ∙ ap (draw s) (add-zero n)
 
--- The dst, by the kind
+-- The four draws of a call, `l` being the load before them, and `l₁` to `l₄` the loads after each
 
-module _ (kind : ℕ) (src drawn : Drawn) (index : ℕ) (d : drawn ≡ drawn_from src.state 900) where
-  pub dst_set : kind ≡ 1 → record { value = src.value + 8; state = drawn.state } ≡ dst_from kind src index
-  dst_set e = rw (eq-eqb kind 1 e) (λ i. record { value = src.value + 8; state = (d i).state })
+module _ (stamp kind count src dst : ℕ) (l l₁ l₂ l₃ l₄ : Load)
+    (k : kind ≡ draw l.state 0 % 3) (e₁ : l₁ ≡ stepped_by l 1) (n : count ≡ draw l₁.state 0 % 33) (e₂ : l₂ ≡ stepped_by l₁ 1)
+    (r : src ≡ draw l₂.state 0 % 900) (e₃ : l₃ ≡ stepped_by l₂ 1) (d : dst ≡ draw l₃.state 0 % 900) (e₄ : l₄ ≡ stepped_by l₃ 1) where
+  after_kind : l₁.state ≡ state_after l.state 1
+  after_kind = ap (λ (x : Load). x.state) e₁
 
-  pub dst_write : kind ≡ 2 → record { value = index; state = drawn.state } ≡ dst_from kind src index
-  dst_write e = rw (ne_eqb kind 1 (λ q. omega arith), eq-eqb kind 2 e) (λ i. record { value = index; state = (d i).state })
+  after_count : l₂.state ≡ state_after l.state 2
+  after_count = ap (λ (x : Load). x.state) e₂ ∙ step_at l.state 1 l₁.state after_kind
 
-  pub dst_other : (kind ≡ 1 → ⊥) → (kind ≡ 2 → ⊥) → drawn ≡ dst_from kind src index
-  dst_other e f = rw (ne_eqb kind 1 e, ne_eqb kind 2 f) d
+  after_src : l₃.state ≡ state_after l.state 3
+  after_src = ap (λ (x : Load). x.state) e₃ ∙ step_at l.state 2 l₂.state after_count
 
--- The four draws of a call
+  pub after_dst : l₄.state ≡ state_after l.state 4
+  after_dst = ap (λ (x : Load). x.state) e₄ ∙ step_at l.state 3 l₃.state after_src
 
-module _ (state index stamp : ℕ) (kind count src dst : Drawn) (k : kind ≡ drawn_from state 3) (c : count ≡ drawn_from kind.state 33)
-    (r : src ≡ drawn_from count.state 900) (d : dst ≡ dst_from kind.value src index) where
-  after_kind : kind.state ≡ state_after state 1
-  after_kind = ap (λ (x : Drawn). x.state) k
+  -- a draw leaves the index as it is
+  pub same_index : l₄.index ≡ l.index
+  same_index = cc
 
-  after_count : count.state ≡ state_after state 2
-  after_count = ap (λ (x : Drawn). x.state) c ∙ step_at state 1 kind.state after_kind
+  is_count : count ≡ count_drawn l.state 0
+  is_count = n ∙ ap (λ x. x % 33) (draw_at l.state 1 l₁.state after_kind)
 
-  after_src : src.state ≡ state_after state 3
-  after_src = ap (λ (x : Drawn). x.state) r ∙ step_at state 2 count.state after_count
+  is_src : src ≡ src_drawn l.state 0
+  is_src = r ∙ ap (λ x. x % 900) (draw_at l.state 2 l₂.state after_count)
 
-  pub after_dst : dst.state ≡ state_after state 4
-  after_dst = ap (λ (x : Drawn). x.state) d ∙ step_at state 3 src.state after_src
+  is_dst : dst ≡ dst_drawn l.state 0
+  is_dst = d ∙ ap (λ x. x % 900) (draw_at l.state 3 l₃.state after_src)
 
-  is_kind : kind.value ≡ kind_drawn state 0
-  is_kind = ap (λ (x : Drawn). x.value) k
+  pub call_numbers_lem : kind ∷ stamp ∷ src ∷ replaced kind src dst l.index ∷ count ∷ [] ≡ handed_numbers (drawn_call l.state l.index stamp)
+  call_numbers_lem = λ i. k i ∷ stamp ∷ is_src i ∷ replaced (k i) (is_src i) (is_dst i) l.index ∷ is_count i ∷ []
 
-  is_count : count.value ≡ count_drawn state 0
-  is_count = ap (λ (x : Drawn). x.value) c ∙ ap (λ x. x % 33) (draw_at state 1 kind.state after_kind)
-
-  is_src : src.value ≡ src_drawn state 0
-  is_src = ap (λ (x : Drawn). x.value) r ∙ ap (λ x. x % 900) (draw_at state 2 count.state after_count)
-
-  is_dst : dst.value ≡ replaced (kind_drawn state 0) (src_drawn state 0) (dst_drawn state 0) index
-  is_dst =
-      ap (λ (x : Drawn). x.value) d
-      ∙ (λ i. replaced (is_kind i) (is_src i) (draw_at state 3 src.state after_src i % 900) index)
-
-  pub call_numbers_lem : kind.value ∷ stamp ∷ src.value ∷ dst.value ∷ count.value ∷ [] ≡ handed_numbers (drawn_call state index stamp)
-  call_numbers_lem = λ i. is_kind i ∷ stamp ∷ is_src i ∷ is_dst i ∷ is_count i ∷ []
-
-  pub call_indexed : indexed kind.value count.value ≡ indexed (kind_drawn state 0) (count_drawn state 0)
-  call_indexed = λ i. indexed (is_kind i) (is_count i)
+  pub call_indexed : indexed kind count ≡ indexed (kind_drawn l.state 0) (count_drawn l.state 0)
+  call_indexed = λ i. indexed (k i) (is_count i)
 
 -- Call k
 

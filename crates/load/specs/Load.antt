@@ -1,6 +1,6 @@
 -- A load: calls that are drawn from one number s, and written as they are handed in. The words in quotes are document 02's. Assumes
 -- nothing.
-use Rattle.std.specs.Prelude.{◌≡◌, cond, ℕ, zero, suc, ◌+◌, ◌*◌, ◌/◌, ◌%◌, ◌^◌, eqb, ltb, length}
+use Rattle.std.specs.Prelude.{◌≡◌, cond, ℕ, zero, suc, ◌+◌, ◌*◌, ◌/◌, ◌%◌, ◌^◌, eqb, ltb, length, Result, Ok, Err}
 use mathlib.Core.List.{List, [], ◌∷◌, flat_map}
 use Rattle.answer.specs.Numbers.{accepted, refused}
 use Rattle.answer.specs.Refusals.{Refusal, refuse, first_of}
@@ -9,8 +9,8 @@ use Rattle.lists.specs.Lists.{store, listed}
 use Rattle.records.specs.Records.{LIMIT}
 use Rattle.call.specs.Calls.{Call}
 use Rattle.call.specs.Flat.{HANDED_WIDTH, handed_numbers}
-use Rattle.load.specs.declared.LoadAnswer.{LoadAnswer}
-use Rattle.load.specs.declared.LoadAnswer.TheVariants.{Written, TooManyCalls, BufferShort}
+use Rattle.load.specs.declared.LoadRefusal.{LoadRefusal}
+use Rattle.load.specs.declared.LoadRefusal.TheVariants.{TooManyCalls, BufferShort}
 
 -- Draws
 
@@ -94,10 +94,13 @@ unfoldable pub load_after : ℕ → ℕ → List ℕ → List ℕ
 load_after s n calls = cond (eqb (load_answer n (length calls)).number 0) (loaded s n calls) calls
 
 -- the number, place and value of each case of the code's answer
-abbrev pub load_numbers : LoadAnswer → Answer
-load_numbers (Written calls) = accepted calls
-load_numbers TooManyCalls = refused 19 0
-load_numbers BufferShort = refused 9 0
+abbrev pub load_refusal_numbers : LoadRefusal → Answer
+load_refusal_numbers TooManyCalls = refused 19 0
+load_refusal_numbers BufferShort = refused 9 0
+
+abbrev pub load_numbers : Result ℕ LoadRefusal → Answer
+load_numbers (Ok calls) = accepted calls
+load_numbers (Err why) = load_refusal_numbers why
 
 -- what `generate_load` has to show: its numbers, and the lent buffer when it is done
 pub record LoadDone (s n : ℕ) (calls : List ℕ) (numbers : Answer) (after : List ℕ) : Type 0 where

@@ -5,48 +5,46 @@
 mod draws;
 
 ghost use Rattle.std.specs.Prelude.{◌≡◌};
-ghost use Rattle.load.specs.Load.{load_numbers, LoadDone};
+ghost use Rattle.load.specs.Load.{load_refusal_numbers, load_numbers, LoadDone};
 
-use answer::{Answer, accept, refuse};
+use answer::{Answer, refuse};
 use call::HANDED_WIDTH;
 use draws::write_calls;
 use records::LIMIT;
 
-// One case for each answer of the load.
+// What the load refuses.
 #[derive(Clone, Copy)]
-pub enum LoadAnswer {
-    // nothing is refused: how many calls are written
-    Written { calls: u64 },
+pub enum LoadRefusal {
     // 19: more than 65,536 calls are wanted
     TooManyCalls,
     // 9: the buffer is shorter than the result
     BufferShort,
 }
 
-// The number, place and value of an answer; the value is the number of calls.
-pub fn numbers(a: LoadAnswer) -> Answer
-    ensures { result ≡ load_numbers a }
-{
-    match a {
-        LoadAnswer::Written { calls } => accept(calls),
-        LoadAnswer::TooManyCalls => refuse(19, 0),
-        LoadAnswer::BufferShort => refuse(9, 0),
+impl From<LoadRefusal> for Answer {
+    ghost from_gives = { λ why answer. answer ≡ load_refusal_numbers why };
+
+    fn from(why: LoadRefusal) -> Answer {
+        match why {
+            LoadRefusal::TooManyCalls => refuse(19, 0),
+            LoadRefusal::BufferShort => refuse(9, 0),
+        }
     }
 }
 
-// Writes the first `n` calls of the load of `s` into `calls`, as they are handed in: kind, stamp, src, dst, count. Refuses with 19 and 9,
-// in this order, and then writes nothing.
-pub fn generate_load(s: u64, n: u64, calls: &mut [u64]) -> LoadAnswer
+// Writes the first `n` calls of the load of `s` into `calls`, as they are handed in: kind, stamp, src, dst, count. Answers how many calls
+// are written. Refuses with 19 and 9, in this order, and then writes nothing.
+pub fn generate_load(s: u64, n: u64, calls: &mut [u64]) -> Result<u64, LoadRefusal>
     ensures { LoadDone s n calls.old (load_numbers result) calls.new }
 {
     let wanted = n as usize;
     let room = calls.len() / HANDED_WIDTH;
     if LIMIT < wanted {
-        return LoadAnswer::TooManyCalls;
+        return Err(LoadRefusal::TooManyCalls);
     }
     if room < wanted {
-        return LoadAnswer::BufferShort;
+        return Err(LoadRefusal::BufferShort);
     }
     write_calls(s, wanted, calls);
-    LoadAnswer::Written { calls: n }
+    Ok(n)
 }

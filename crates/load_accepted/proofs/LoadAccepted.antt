@@ -5,12 +5,12 @@ use Prim.Native.Nat.{ℕ, ◌*◌, ◌≤◌}
 use native.Mathlib.Omega.{arith}
 use lib.Dec.{lit<}
 use lib.ListN.{length, take}
+use Rattle.std.specs.Prelude.{Ok}
 use Rattle.lists.specs.Lists.{All}
 use Rattle.lists.proofs.All.{all_mapped}
 use Rattle.lists.proofs.Listed.{all_listed}
 use Rattle.words.specs.Words.{Bytes}
 use Rattle.records.specs.Records.{LIMIT}
-use Rattle.records.specs.declared.TableAnswer.TheVariants.{Made}
 use Rattle.call.specs.Cuts.{FitsTypes}
 use Rattle.call.specs.Flat.{call_numbers}
 use Rattle.load.specs.Load.{GAP, load_call, load_calls}
@@ -54,12 +54,12 @@ module _ (s n : ℕ) (few : n ≤ LIMIT) where
 
     passes : AllBytes tries → (table : List ℕ) (rows : ℕ)
         → let records = accepted_ops load_setting tries in
-        copy_answer LIMIT records (length table) ≡ Made rows
-        → let l = take (COLUMNS * rows) (copy_after records (Made rows) table) in
+        copy_answer LIMIT records (length table) ≡ Ok rows
+        → let l = take (COLUMNS * rows) (copy_after records (Ok rows) table) in
         Passes GAP l × ((ops calls : List ℕ) → ReadsBack GAP l records (flat_map call_numbers (load_calls s n)) ops calls)
     passes bytes table rows made =
         let records = accepted_ops load_setting tries in
-        let l = take (COLUMNS * rows) (copy_after records (Made rows) table) in
+        let l = take (COLUMNS * rows) (copy_after records (Ok rows) table) in
         let both = demand3.made GAP (lit< tt) tries (typed bytes) table rows made in
         (both.0, λ ops calls. subst (λ handed. ReadsBack GAP l records handed ops calls) handed_back (both.1 ops calls))
 

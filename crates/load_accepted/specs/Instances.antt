@@ -1,10 +1,9 @@
 -- A small load, expanded in turn over one window, computed over the definitions, so that nothing in the theorem is empty.
 -- `load_accepted_holds` carries it. Assumes nothing.
-use Rattle.std.specs.Prelude.{◌≡◌, ℕ, ◌*◌, replicate, take}
+use Rattle.std.specs.Prelude.{◌≡◌, ℕ, ◌*◌, replicate, take, Ok}
 use mathlib.Core.List.{List, [], ◌∷◌, flat_map}
 use Rattle.words.specs.Words.{Bytes}
 use Rattle.records.specs.Records.{LIMIT}
-use Rattle.records.specs.declared.TableAnswer.TheVariants.{Made}
 use Rattle.call.specs.Calls.{Call}
 use Rattle.call.specs.Flat.{handed_numbers, call_numbers}
 use Rattle.load.specs.Load.{GAP, load_call, load_calls}
@@ -13,7 +12,6 @@ use Rattle.expansion.specs.Refusals.{answered}
 use Rattle.copy_row.specs.Columns.{COLUMNS}
 use Rattle.copy_row.specs.Trace.{copy_answer, copy_after}
 use Rattle.chain.specs.Chain.{chain_answer}
-use Rattle.chain.specs.declared.ChainAnswer.TheVariants.{Passed}
 use Rattle.read_back.specs.ReadBack.{read_calls}
 use Rattle.calls_in_turn.specs.Accepted.{accepted_ops}
 use Rattle.calls_in_turn.specs.InTurn.{tries_of}
@@ -36,7 +34,7 @@ abbrev pub three_tries : List Try
 three_tries = tries_of load_setting three (slices 48 58)
 
 abbrev pub three_rows : List ℕ
-three_rows = take (COLUMNS * 4) (copy_after (accepted_ops load_setting three_tries) (Made 4) (replicate 164 1))
+three_rows = take (COLUMNS * 4) (copy_after (accepted_ops load_setting three_tries) (Ok 4) (replicate 164 1))
 
 pub record Instances : Type 0 where
   pub calls : flat_map handed_numbers three
@@ -45,8 +43,8 @@ pub record Instances : Type 0 where
   pub long : LongForAll three (slices 48 58)
   pub bytes : Bytes (slices 48 58).bytes
   -- their table passes, and they are read back of it
-  pub made : copy_answer LIMIT (accepted_ops load_setting three_tries) 164 ≡ Made 4
-  pub passes : chain_answer GAP three_rows ≡ Passed 4
+  pub made : copy_answer LIMIT (accepted_ops load_setting three_tries) 164 ≡ Ok 4
+  pub passes : chain_answer GAP three_rows ≡ Ok 4
   pub back : read_calls three_rows ≡ flat_map call_numbers three
   -- the Set among them is refused under another gap (3), in a window that ends at its destination (2), and with a buffer one number short (9)
   pub other_gap : (answered (under 7) (try_of (load_call 25148 1) (slices 48 58))).number ≡ 3

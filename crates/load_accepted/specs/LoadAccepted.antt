@@ -1,12 +1,11 @@
 -- "Prove that the expansion accepts every call it makes, given buffers long enough": the words in quotes are document 02's. How many
 -- records a call has is left to the expansion's own counts. Assumes nothing.
-use Rattle.std.specs.Prelude.{◌≡◌, false, ℕ, ◌*◌, ◌≤◌, length, take}
+use Rattle.std.specs.Prelude.{◌≡◌, false, ℕ, ◌*◌, ◌≤◌, length, take, Ok}
 use mathlib.Core.List.{List, map, flat_map}
 use Rattle.answer.specs.Numbers.{accepted}
 use Rattle.lists.specs.Lists.{All, sum}
 use Rattle.words.specs.Words.{Bytes}
 use Rattle.records.specs.Records.{LIMIT}
-use Rattle.records.specs.declared.TableAnswer.TheVariants.{Made}
 use Rattle.call.specs.Calls.{Call}
 use Rattle.call.specs.Ops.{OP_WIDTH}
 use Rattle.call.specs.Flat.{handed_numbers, call_numbers}
@@ -70,8 +69,8 @@ pub record LoadAccepted : Type 0 where
   -- and by demand 3 the table made of it passes, and is read back as the calls of the load
   pub passes : (s n : ℕ) → n ≤ LIMIT → (tries : List Try) → TriesOfLoad s n tries → AllBytes tries → (table : List ℕ) (rows : ℕ)
       → let records = accepted_ops load_setting tries in
-      copy_answer LIMIT records (length table) ≡ Made rows
-      → let l = take (COLUMNS * rows) (copy_after records (Made rows) table) in
+      copy_answer LIMIT records (length table) ≡ Ok rows
+      → let l = take (COLUMNS * rows) (copy_after records (Ok rows) table) in
       Passes GAP l × ((ops calls : List ℕ) → ReadsBack GAP l records (flat_map call_numbers (load_calls s n)) ops calls)
   -- in turn over one window: each call finds slices long enough in what the call before left
   pub in_turn : (s n : ℕ) → n ≤ LIMIT → (l : Lent) → LongForAll (load_calls s n) l

@@ -7,6 +7,7 @@ ghost use Rattle.load_accepted.specs.Instances.{Instances};
 ghost use Rattle.load_accepted.specs.LoadRows.{LoadRows};
 
 // "Prove that the expansion accepts every call it makes, given buffers long enough", with instances of what that speaks of.
+#[tactic(auto, using(crate::proofs::LoadAccepted::load_accepted, crate::proofs::Instances::instances))]
 pub fn load_accepted_holds() -> bool
     ensures { (result ≡ true) × LoadAccepted × Instances }
 {
@@ -14,6 +15,7 @@ pub fn load_accepted_holds() -> bool
 }
 
 // No row of a load's calls meets an edge, and no call has more than ten rows.
+#[tactic(auto, using(crate::proofs::LoadAccepted::load_rows))]
 pub fn load_rows_hold() -> bool
     ensures { (result ≡ true) × LoadRows }
 {

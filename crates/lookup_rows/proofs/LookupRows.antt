@@ -3,6 +3,7 @@
 use mathlib.Core.Path.{◌≡◌, refl, sym, ap, subst, ◌∙◌}
 use mathlib.Core.List.{List}
 use Prim.Native.Nat.{ℕ, ◌+◌, ◌*◌, ◌^◌, ◌≤◌, ◌<◌}
+use Rattle.std.specs.Prelude.{Ok}
 use native.Mathlib.Omega.{arith}
 use lib.ListN.{length}
 use Rattle.lists.specs.Lists.{at}
@@ -11,7 +12,6 @@ use Rattle.lists.proofs.Store.{run_taken}
 use Rattle.words.specs.Words.{low_word}
 use Rattle.words.proofs.Bits.{one_of_two}
 use Rattle.records.specs.Records.{record_count, record_at, first_bad}
-use Rattle.records.specs.declared.TableAnswer.TheVariants.{Made}
 use Rattle.records.proofs.RecordList.{joined_count}
 use Rattle.records.proofs.RowCount.{row_count_least}
 use Rattle.records.proofs.Table as tables
@@ -30,7 +30,6 @@ use Rattle.routing.specs.declared.split.Counts.{Counts}
 use Rattle.routing.proofs.Arrival.{routed_in_order}
 use Rattle.lookups.specs.Lookups.{lookup_answer, lookups_after}
 use Rattle.lookups.specs.LookupLaws.{Rebuilds, pair_at, register_at, REGISTER_TIMESTAMP, REGISTER_OLD_LO, PairsBeside}
-use Rattle.lookups.specs.declared.LookupAnswer.TheVariants.{Written}
 use Rattle.lookups.proofs.Computing as lookups
 use Rattle.lookups.proofs.LookupLaws.{register_wide, lookup_laws}
 use Rattle.lookup_rows.specs.LookupRows.{row_in, registers_in, RowsLookedUp, LookupRows, RowInstances}
@@ -61,7 +60,7 @@ registers_counted l before c most route =
     ∙ order.in_count Register
 
 module _
-    (limit : ℕ) (l lookups : List ℕ) (pairs : ℕ) (looked : lookup_answer limit l (length lookups) ≡ Written pairs)
+    (limit : ℕ) (l lookups : List ℕ) (pairs : ℕ) (looked : lookup_answer limit l (length lookups) ≡ Ok pairs)
     (most : ℕ) (before : Lists) (c : Counts) (route : route_answer most l (rooms_of before) ≡ routed c)
     (many : ℕ) (table : List ℕ) (rows : ℕ) (few : many ≤ 2 ^ 63) where
   abbrev ls : Lists
@@ -71,16 +70,16 @@ module _
   records = registers_in ls c.register
 
   abbrev after : List ℕ
-  after = memw_after Register records (Made rows) table
+  after = memw_after Register records (Ok rows) table
 
-  beside : PairsBeside (lookups_after l (Written pairs) lookups) pairs ls c.register
+  beside : PairsBeside (lookups_after l (Ok pairs) lookups) pairs ls c.register
   beside = lookup_laws.beside limit l lookups pairs looked most before c route
 
   -- as many records as pairs
   record_count_lem : record_count REGISTER_WIDTH records ≡ pairs
   record_count_lem = registers_counted l before c most route ∙ sym beside.counted
 
-  module _ (made : memw_answer Register many records (length table) ≡ Made rows) where
+  module _ (made : memw_answer Register many records (length table) ≡ Ok rows) where
     abbrev facts : tables.MadeFacts many (row_width Register) (record_count REGISTER_WIDTH records) (first_bad REGISTER_WIDTH (good_record Register) records)
         (length table) rows
     facts = made_facts Register many records (length table) rows made
@@ -106,13 +105,13 @@ module _
         ∙ row_of_record Register records j (omega (arith, record_count_lem))
         ∙ ap (λ (g : List ℕ). register_row (reg_row_of g)) (same_record j h)
 
-    rows_looked_up : RowsLookedUp (lookups_after l (Written pairs) lookups) pairs after rows
+    rows_looked_up : RowsLookedUp (lookups_after l (Ok pairs) lookups) pairs after rows
     rows_looked_up =
         record {
           within = covered;
           each = λ j h.
               let g = register_at ls j in
-              subst (λ (row : List ℕ). Rebuilds (pair_at (lookups_after l (Written pairs) lookups) j) (at row TIMESTAMP) (at row OLD_TIMESTAMP_LO))
+              subst (λ (row : List ℕ). Rebuilds (pair_at (lookups_after l (Ok pairs) lookups) j) (at row TIMESTAMP) (at row OLD_TIMESTAMP_LO))
               (sym (row_of_lem j h))
               (rw (low_stamp g, low_old_stamp g) (beside.each j h));
           live = λ j h.

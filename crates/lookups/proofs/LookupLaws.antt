@@ -4,6 +4,7 @@ use mathlib.Core.Path.{◌≡◌, refl, sym, ap, subst, ◌∙◌}
 use mathlib.Core.Bool.{Bool, true, false, cond}
 use mathlib.Core.List.{List, [], flat_map}
 use Prim.Native.Nat.{ℕ, ◌+◌, ◌-◌, ◌*◌, ◌≤◌, ◌<◌}
+use Rattle.std.specs.Prelude.{Ok, Err}
 use native.Mathlib.Omega.{arith}
 use borrow.Author.Tests.{le-ltb, le-leb, lt-leb}
 use lib.Dec.{ltb, leb}
@@ -16,60 +17,56 @@ use Rattle.lists.proofs.Store.{store_front}
 use Rattle.words.specs.Words.{low_word, digits}
 use Rattle.records.specs.Records.{record_count, record_at, records_in}
 use Rattle.records.proofs.RecordList.{front_at}
-use Rattle.access.specs.Access.{TIMESTAMP, OLD_TIMESTAMP, ACCESS_WIDTH, good_access}
+use Rattle.access.specs.Access.{TIMESTAMP, OLD_TIMESTAMP, ACCESS_WIDTH}
 use Rattle.access.specs.Tables.{REGISTER_WIDTH, same_table}
 use Rattle.access.specs.declared.AccessTable.TheVariants.{Register}
 use Rattle.classify.specs.Classify.{table_for}
 use Rattle.classify.specs.TableRecord.{register_record}
 use Rattle.classify.proofs.RouteLaws.{register_by}
 use Rattle.classify.proofs.Stamps.{delta_bounds, register_delta}
-use Rattle.routing.specs.Routing.{goes_to, counts_of, count_of, Lists, rooms_of, first_refused, all_fit, routed, route_answer, lists_after, route_numbers}
+use Rattle.routing.specs.Routing.{goes_to, counts_of, count_of, Lists, rooms_of, RouteAnswer, record_refusal, first_refused, all_fit, routed, route_answer, lists_after, route_numbers}
 use Rattle.routing.specs.InOrder.{records_to, InOrder}
-use Rattle.routing.specs.declared.RouteAnswer.{RouteAnswer}
-use Rattle.routing.specs.declared.RouteAnswer.TheVariants as route
+use Rattle.routing.specs.declared.RouteRefusal.{RouteRefusal}
+use Rattle.routing.specs.declared.RouteRefusal.TheVariants.{TooManyRecords, BufferShort}
 use Rattle.routing.specs.declared.split.Counts.{Counts}
 use Rattle.routing.proofs.Judging.{RoutedFacts, routed_facts}
 use Rattle.routing.proofs.Arrival.{routed_in_order}
-use Rattle.lookups.specs.Lookups.{PAIR_WIDTH, pair_of, pair_count, lookups_of, lookup_answer, lookups_after, lookup_numbers}
+use Rattle.lookups.specs.Lookups.{PAIR_WIDTH, pair_of, pair_count, lookups_of, LookupAnswer, lookup_answer, lookups_after, lookup_numbers}
 use Rattle.lookups.specs.LookupLaws.{RefusesList, AsRouting, Rebuilds, register_at, REGISTER_TIMESTAMP, REGISTER_OLD_LO, PairsBeside, LookupLaws}
-use Rattle.lookups.specs.declared.LookupAnswer.{LookupAnswer}
-use Rattle.lookups.specs.declared.LookupAnswer.TheVariants.{Written, TooManyRecords, BadRecord, BadAddress, BufferShort}
 use Rattle.lookups.proofs.Answered.{wanted_register}
 use Rattle.lookups.proofs.Answers.{WrittenFacts, written_facts}
 
 -- Refusals
 
 module _ (limit over : ℕ) (l : List ℕ) (rooms : Counts) (room : ℕ) where
-  -- both answers by their tests: too many records, one that is refused, whether it is good, and the room
-  abbrev routing_by : Bool → Bool → Bool → Bool → RouteAnswer
-  routing_by x y g z =
-      cond x route.TooManyRecords
-      (cond y (cond g (route.BadAddress (first_refused l)) (route.BadRecord (first_refused l))) (cond z (routed (counts_of l)) route.BufferShort))
+  -- the refusal of the lowest record that is refused
+  abbrev refusal : RouteRefusal
+  refusal = record_refusal (record_at ACCESS_WIDTH l (first_refused l)) (first_refused l)
 
-  abbrev lookups_by : Bool → Bool → Bool → Bool → LookupAnswer
-  lookups_by x y g z =
-      cond x TooManyRecords
-      (cond y (cond g (BadAddress (first_refused l)) (BadRecord (first_refused l))) (cond z (Written (pair_count l)) BufferShort))
+  -- both answers by their tests: too many records, one that is refused, and the room
+  abbrev routing_by : Bool → Bool → Bool → RouteAnswer
+  routing_by x y z = cond x (Err TooManyRecords) (cond y (Err refusal) (cond z (routed (counts_of l)) (Err BufferShort)))
 
-  as_routing_by : (x y g z w : Bool) → let n = route_numbers over (routing_by x y g z) in let m = lookup_numbers over (lookups_by x y g w) in
+  abbrev lookups_by : Bool → Bool → Bool → LookupAnswer
+  lookups_by x y z = cond x (Err TooManyRecords) (cond y (Err refusal) (cond z (Ok (pair_count l)) (Err BufferShort)))
+
+  as_routing_by : (x y z w : Bool) → let n = route_numbers over (routing_by x y z) in let m = lookup_numbers over (lookups_by x y w) in
       RefusesList n.number → (m.number ≡ n.number) × (m.place ≡ n.place)
-  as_routing_by true y g z w h = (refl, refl)
-  as_routing_by false true true z w h = (refl, refl)
-  as_routing_by false true false z w h = (refl, refl)
-  as_routing_by false false g true w h = absurd (h.0 refl)
-  as_routing_by false false g false w h = absurd (h.1 refl)
+  as_routing_by true y z w h = (refl, refl)
+  as_routing_by false true z w h = (refl, refl)
+  as_routing_by false false true w h = absurd (h.0 refl)
+  as_routing_by false false false w h = absurd (h.1 refl)
 
-  routing_as_by : (x y g z w : Bool) → let n = route_numbers over (routing_by x y g z) in let m = lookup_numbers over (lookups_by x y g w) in
+  routing_as_by : (x y z w : Bool) → let n = route_numbers over (routing_by x y z) in let m = lookup_numbers over (lookups_by x y w) in
       RefusesList m.number → (n.number ≡ m.number) × (n.place ≡ m.place)
-  routing_as_by true y g z w h = (refl, refl)
-  routing_as_by false true true z w h = (refl, refl)
-  routing_as_by false true false z w h = (refl, refl)
-  routing_as_by false false g z true h = absurd (h.0 refl)
-  routing_as_by false false g z false h = absurd (h.1 refl)
+  routing_as_by true y z w h = (refl, refl)
+  routing_as_by false true z w h = (refl, refl)
+  routing_as_by false false z true h = absurd (h.0 refl)
+  routing_as_by false false z false h = absurd (h.1 refl)
 
   -- past 8, 10 and 11 the room decides
   by_room : record_count ACCESS_WIDTH l ≤ limit → record_count ACCESS_WIDTH l ≤ first_refused l
-      → lookup_answer limit l room ≡ cond (leb (PAIR_WIDTH * pair_count l) room) (Written (pair_count l)) BufferShort
+      → lookup_answer limit l room ≡ cond (leb (PAIR_WIDTH * pair_count l) room) (Ok (pair_count l)) (Err BufferShort)
   unfolding lookup_answer
   by_room h f = rw (le-ltb limit (record_count ACCESS_WIDTH l) h, le-ltb (first_refused l) (record_count ACCESS_WIDTH l) f)
 
@@ -77,15 +74,15 @@ module _ (limit over : ℕ) (l : List ℕ) (rooms : Counts) (room : ℕ) where
     abbrev facts : RoutedFacts limit l rooms c
     facts = routed_facts limit l rooms c e
 
-    served_by : PAIR_WIDTH * c.register ≤ room → lookup_answer limit l room ≡ Written c.register
+    served_by : PAIR_WIDTH * c.register ≤ room → lookup_answer limit l room ≡ Ok c.register
     served_by h =
         by_room facts.allowed facts.fine
-        ∙ rw (le-leb (PAIR_WIDTH * pair_count l) room (omega (arith, facts.counts Register))) (ap Written (sym (facts.counts Register)))
+        ∙ rw (le-leb (PAIR_WIDTH * pair_count l) room (omega (arith, facts.counts Register))) (ap Ok (sym (facts.counts Register)))
 
-    short_by : room < PAIR_WIDTH * c.register → lookup_answer limit l room ≡ BufferShort
+    short_by : room < PAIR_WIDTH * c.register → lookup_answer limit l room ≡ Err BufferShort
     short_by h = by_room facts.allowed facts.fine ∙ rw (lt-leb (PAIR_WIDTH * pair_count l) room (omega (arith, facts.counts Register)))
 
-  back_by : (pairs : ℕ) → lookup_answer limit l room ≡ Written pairs → all_fit (counts_of l) rooms ≡ true
+  back_by : (pairs : ℕ) → lookup_answer limit l room ≡ Ok pairs → all_fit (counts_of l) rooms ≡ true
       → (route_answer limit l rooms ≡ routed (counts_of l)) × ((counts_of l).register ≡ pairs)
   unfolding route_answer
   back_by pairs e fit =
@@ -96,12 +93,11 @@ module _ (limit over : ℕ) (l : List ℕ) (rooms : Counts) (room : ℕ) where
   unfolding route_answer lookup_answer
   refuses_alike =
       let n = record_count ACCESS_WIDTH l in
-      let good = good_access (record_at ACCESS_WIDTH l (first_refused l)) in
       let fit = all_fit (counts_of l) rooms in
       let long = leb (PAIR_WIDTH * pair_count l) room in
       record {
-        as_routing = as_routing_by (ltb limit n) (ltb (first_refused l) n) good fit long;
-        routing_as = routing_as_by (ltb limit n) (ltb (first_refused l) n) good fit long;
+        as_routing = as_routing_by (ltb limit n) (ltb (first_refused l) n) fit long;
+        routing_as = routing_as_by (ltb limit n) (ltb (first_refused l) n) fit long;
         served = served_by;
         nine = short_by;
         back = back_by;
@@ -130,12 +126,12 @@ pair_rebuilds r e =
     let range = delta_bounds (at r TIMESTAMP) (at r OLD_TIMESTAMP) (register_delta r (register_by r (wanted_register r e))) in
     bytes_rebuild (low_word (at r TIMESTAMP)) (low_word (at r OLD_TIMESTAMP)) range.0 range.1
 
-module _ (limit : ℕ) (l lookups : List ℕ) (pairs : ℕ) (e : lookup_answer limit l (length lookups) ≡ Written pairs) where
+module _ (limit : ℕ) (l lookups : List ℕ) (pairs : ℕ) (e : lookup_answer limit l (length lookups) ≡ Ok pairs) where
   abbrev told : WrittenFacts limit l (length lookups) pairs
   told = written_facts limit l (length lookups) pairs e
 
   abbrev after : List ℕ
-  after = lookups_after l (Written pairs) lookups
+  after = lookups_after l (Ok pairs) lookups
 
   pub arrival : take (PAIR_WIDTH * pairs) after ≡ flat_map pair_of (records_to Register l)
   unfolding lookups_after lookups_of records_in count_of

@@ -1,7 +1,7 @@
 -- The lookups in document 02's words, held against routing on the same list: the same refusals, a pair for each record that `route_accesses`
 -- puts into the register list, in its place, and two bytes that rebuild the record's low stamp difference less one. `lookup_laws_hold` in
 -- theorems carries them. Assumes nothing.
-use Rattle.std.specs.Prelude.{◌≡◌, true, ℕ, ◌+◌, ◌*◌, ◌≤◌, ◌<◌, length, take}
+use Rattle.std.specs.Prelude.{◌≡◌, true, ℕ, ◌+◌, ◌*◌, ◌≤◌, ◌<◌, length, take, Ok, Err}
 use mathlib.Core.List.{List, flat_map}
 use Rattle.lists.specs.Lists.{at}
 use Rattle.words.specs.Words.{low_word}
@@ -12,7 +12,7 @@ use Rattle.routing.specs.Routing.{counts_of, Lists, rooms_of, all_fit, routed, r
 use Rattle.routing.specs.InOrder.{records_to}
 use Rattle.routing.specs.declared.split.Counts.{Counts}
 use Rattle.lookups.specs.Lookups.{PAIR_WIDTH, pair_of, lookup_answer, lookups_after, lookup_numbers}
-use Rattle.lookups.specs.declared.LookupAnswer.TheVariants.{Written, BufferShort}
+use Rattle.routing.specs.declared.RouteRefusal.TheVariants.{BufferShort}
 
 -- Refusals
 
@@ -28,10 +28,10 @@ pub record AsRouting (limit over : ℕ) (l : List ℕ) (rooms : Counts) (room : 
   pub routing_as : let n = route_numbers over (route_answer limit l rooms) in let m = lookup_numbers over (lookup_answer limit l room) in
       RefusesList m.number → (n.number ≡ m.number) × (n.place ≡ m.place)
   -- where routing refuses nothing, the lookups are written if the pairs fit, and else refused with 9
-  pub served : (c : Counts) → route_answer limit l rooms ≡ routed c → PAIR_WIDTH * c.register ≤ room → lookup_answer limit l room ≡ Written c.register
-  pub nine : (c : Counts) → route_answer limit l rooms ≡ routed c → room < PAIR_WIDTH * c.register → lookup_answer limit l room ≡ BufferShort
+  pub served : (c : Counts) → route_answer limit l rooms ≡ routed c → PAIR_WIDTH * c.register ≤ room → lookup_answer limit l room ≡ Ok c.register
+  pub nine : (c : Counts) → route_answer limit l rooms ≡ routed c → room < PAIR_WIDTH * c.register → lookup_answer limit l room ≡ Err BufferShort
   -- and where they are written, routing refuses nothing, if its three lists are long enough
-  pub back : (pairs : ℕ) → lookup_answer limit l room ≡ Written pairs → all_fit (counts_of l) rooms ≡ true
+  pub back : (pairs : ℕ) → lookup_answer limit l room ≡ Ok pairs → all_fit (counts_of l) rooms ≡ true
       → (route_answer limit l rooms ≡ routed (counts_of l)) × ((counts_of l).register ≡ pairs)
 
 -- Pairs
@@ -68,9 +68,9 @@ pub record PairsBeside (lookups : List ℕ) (pairs : ℕ) (ls : Lists) (register
 pub record LookupLaws : Type 0 where
   pub refusals : (limit over : ℕ) (l : List ℕ) (rooms : Counts) (room : ℕ) → AsRouting limit over l rooms room
   -- "in arrival order"
-  pub in_order : (limit : ℕ) (l lookups : List ℕ) (pairs : ℕ) → lookup_answer limit l (length lookups) ≡ Written pairs
-      → take (PAIR_WIDTH * pairs) (lookups_after l (Written pairs) lookups) ≡ flat_map pair_of (records_to Register l)
+  pub in_order : (limit : ℕ) (l lookups : List ℕ) (pairs : ℕ) → lookup_answer limit l (length lookups) ≡ Ok pairs
+      → take (PAIR_WIDTH * pairs) (lookups_after l (Ok pairs) lookups) ≡ flat_map pair_of (records_to Register l)
   -- beside what routing writes, into any lists and within any limit
-  pub beside : (limit : ℕ) (l lookups : List ℕ) (pairs : ℕ) → lookup_answer limit l (length lookups) ≡ Written pairs
+  pub beside : (limit : ℕ) (l lookups : List ℕ) (pairs : ℕ) → lookup_answer limit l (length lookups) ≡ Ok pairs
       → (most : ℕ) (before : Lists) (c : Counts) → route_answer most l (rooms_of before) ≡ routed c
-      → PairsBeside (lookups_after l (Written pairs) lookups) pairs (lists_after l (routed c) before) c.register
+      → PairsBeside (lookups_after l (Ok pairs) lookups) pairs (lists_after l (routed c) before) c.register

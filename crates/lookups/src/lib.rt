@@ -8,36 +8,24 @@ ghost use Rattle.std.specs.Prelude.{◌≡◌};
 ghost use Rattle.records.specs.Records.{LIMIT};
 ghost use Rattle.lookups.specs.Lookups.{lookup_numbers, LookupsDone};
 
-use answer::{Answer, accept, refuse};
+use answer::{Answer, accept};
 use records::LIMIT;
+use routing::{RouteRefusal, refusal_numbers};
 
-// One case for each answer of the lookups: how many pairs are written, routing's refusals 8, 10 and 11, and 9 for the lookups' own buffer.
-#[derive(Clone, Copy)]
-pub enum LookupAnswer {
-    Written { pairs: usize },
-    TooManyRecords,
-    BadRecord { place: usize },
-    BadAddress { place: usize },
-    BufferShort,
-}
-
-// Writes the lookups of at most 65,536 access records. Refuses with 8, then record by record with 10 and 11, as routing does, then with 9,
-// and then writes nothing.
-pub fn register_lookups(accesses: &[u64], lookups: &mut [u64]) -> LookupAnswer
+// Writes the lookups of at most 65,536 access records, and says how many pairs they are. Refuses with 8, then record by record with 10 and 11,
+// as routing does, then with 9 for a short buffer of its own, and then writes nothing.
+pub fn register_lookups(accesses: &[u64], lookups: &mut [u64]) -> Result<usize, RouteRefusal>
     ensures { LookupsDone LIMIT 8 accesses.now lookups.old (lookup_numbers 8 result) lookups.new }
 {
     pairs::look_up(LIMIT, accesses, lookups)
 }
 
 // Document 01's number, place and value of an answer; `over` is the number of the refusal of too many records.
-pub fn numbers(over: u64, a: LookupAnswer) -> Answer
-    ensures { result ≡ lookup_numbers over a }
+pub fn numbers(over: u64, found: Result<usize, RouteRefusal>) -> Answer
+    ensures { result ≡ lookup_numbers over found }
 {
-    match a {
-        LookupAnswer::Written { pairs } => accept(pairs as u64),
-        LookupAnswer::TooManyRecords => refuse(over, 0),
-        LookupAnswer::BadRecord { place } => refuse(10, place as u64),
-        LookupAnswer::BadAddress { place } => refuse(11, place as u64),
-        LookupAnswer::BufferShort => refuse(9, 0),
+    match found {
+        Ok(pairs) => accept(pairs as u64),
+        Err(why) => refusal_numbers(over, why),
     }
 }

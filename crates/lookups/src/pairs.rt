@@ -8,57 +8,45 @@ ghost use Rattle.classify.specs.Classify.{memw_route, table_of};
 ghost use Rattle.lookups.specs.Lookups.{PAIR_WIDTH, pair_count, lookup_answer, filled_lookups, lookups_after};
 ghost use Rattle.lookups.specs.Inner.{wanted, is_wanted, PairPut};
 
-use crate::LookupAnswer;
 use access::ACCESS_WIDTH;
 use classify::route::classify;
 use classify::{AccessRoute, carried};
 use lists::slices::put_at;
 use records::tables::{record_at, record_count};
-use routing::RouteAnswer;
+use routing::RouteRefusal;
 use routing::split::judge;
 
 // Numbers of a pair.
 const PAIR_WIDTH: usize = 2;
 
 // Writes the lookups of at most `limit` records.
-pub fn look_up(limit: usize, accesses: &[u64], lookups: &mut [u64]) -> LookupAnswer
+#[tactic(auto, using(crate::proofs::Answers::refused_keeps))]
+pub fn look_up(limit: usize, accesses: &[u64], lookups: &mut [u64]) -> Result<usize, RouteRefusal>
     requires { limit ≤ 2 ^ 20 }
     ensures answer { result ≡ lookup_answer limit accesses.now (length lookups.old) }
     ensures lookups { lookups.new ≡ lookups_after accesses.now result lookups.old }
 {
-    let answer = lookup_answer(limit, accesses, lookups.len());
-    if let LookupAnswer::Written { pairs: _ } = answer {
-        write_pairs(accesses, lookups);
-    }
-    answer
+    let pairs = lookup_answer(limit, accesses, lookups.len())?;
+    write_pairs(accesses, lookups);
+    Ok(pairs)
 }
 
 // The answer for a lent buffer of `room` numbers: what routing says of the records, then whether the pairs fit.
-fn lookup_answer(limit: usize, accesses: &[u64], room: usize) -> LookupAnswer
+#[tactic(auto, using(crate::proofs::Answers::answer_over, crate::proofs::Answers::answer_refused, crate::proofs::Answers::answer_fits, crate::proofs::Answers::answer_short, routing::proofs::Judging::judged_few))]
+fn lookup_answer(limit: usize, accesses: &[u64], room: usize) -> Result<usize, RouteRefusal>
     requires { limit ≤ 2 ^ 20 }
     ensures { result ≡ lookup_answer limit accesses.now room }
 {
     let n = record_count(accesses, ACCESS_WIDTH);
     if limit < n {
-        return LookupAnswer::TooManyRecords;
+        return Err(RouteRefusal::TooManyRecords);
     }
-    let judged = judge(accesses, n);
-    match judged {
-        RouteAnswer::Routed {
-            register: pairs,
-            aligned: _,
-            general: _,
-        } => {
-            if PAIR_WIDTH * pairs <= room {
-                return LookupAnswer::Written { pairs };
-            }
-            LookupAnswer::BufferShort
-        }
-        RouteAnswer::TooManyRecords => LookupAnswer::TooManyRecords,
-        RouteAnswer::BadRecord { place } => LookupAnswer::BadRecord { place },
-        RouteAnswer::BadAddress { place } => LookupAnswer::BadAddress { place },
-        RouteAnswer::BufferShort => LookupAnswer::BufferShort,
+    let counts = judge(accesses, n)?;
+    let pairs = counts.register;
+    if PAIR_WIDTH * pairs <= room {
+        return Ok(pairs);
     }
+    Err(RouteRefusal::BufferShort)
 }
 
 // Writes the pair of every register record behind those of the records before it.
@@ -70,15 +58,14 @@ fn write_pairs(accesses: &[u64], lookups: &mut [u64])
 {
     let n = record_count(accesses, ACCESS_WIDTH);
     let mut end = 0;
-    let mut k = 0;
-    while k < n {
+    for k in 0..n {
         let op = record_at(accesses, ACCESS_WIDTH, k);
         end = put_pair(op, end, lookups);
-        k += 1;
     }
 }
 
 // Writes the pair of one record, if it has one, behind the `end` pairs that there are.
+#[tactic(auto, using(crate::proofs::Answered::answered_wanted, crate::proofs::Answered::answered_pair))]
 fn put_pair(op: &[u64], end: usize, lookups: &mut [u64]) -> usize
     requires { (good_access op.now ≡ true) × (end < 2 ^ 20)
         × (wanted op.now ≡ true → PAIR_WIDTH * end + PAIR_WIDTH ≤ length lookups.old) }
@@ -97,11 +84,7 @@ fn put_pair(op: &[u64], end: usize, lookups: &mut [u64]) -> usize
 fn is_wanted(route: AccessRoute) -> bool
     ensures { result ≡ is_wanted (table_of (memw_route route)) }
 {
-    match route {
-        AccessRoute::Register { delta_less_one: _ } => true,
-        AccessRoute::Aligned => false,
-        AccessRoute::General => false,
-    }
+    matches!(route, AccessRoute::Register { .. })
 }
 
 // The two lowest bytes of a number, low byte then high byte.

@@ -12,8 +12,8 @@ use Rattle.lists.proofs.Store.{store_none}
 use Rattle.lists.proofs.Flat.{flat_none}
 use Rattle.records.specs.Records.{record_count, record_at, first_bad}
 use Rattle.records.specs.Table.{table_after}
-use Rattle.records.specs.declared.TableAnswer.{TableAnswer}
-use Rattle.records.specs.declared.TableAnswer.TheVariants.{Made}
+use Rattle.records.specs.Table.{TableAnswer}
+use Rattle.std.specs.Prelude.{Ok}
 use Rattle.records.proofs.Records.{all_good, record_whole, within_length, within_at}
 use Rattle.records.proofs.Table as tables
 use Rattle.access.specs.Access.{access_of}
@@ -76,7 +76,7 @@ answer_of_kind Register limit records room = refl
 
 -- What a made table says of its records
 
-module _ (t : AccessTable) (limit : ℕ) (records : List ℕ) (room rows : ℕ) (made : memw_answer t limit records room ≡ Made rows) where
+module _ (t : AccessTable) (limit : ℕ) (records : List ℕ) (room rows : ℕ) (made : memw_answer t limit records room ≡ Ok rows) where
   pub made_facts : tables.MadeFacts limit (row_width t) (record_count (record_width t) records) (first_bad (record_width t) (good_record t) records) room rows
   unfolding memw_answer
   made_facts = tables.made_facts _ _ _ _ _ rows made
@@ -98,14 +98,14 @@ module _ (t : AccessTable) (limit : ℕ) (records : List ℕ) (room rows : ℕ) 
 
 module _ (t : AccessTable) (records : List ℕ) where
   -- a loop that writes the rows: no row at first, then one more
-  pub no_rows : (table : List ℕ) → memw_after t records (Made 0) table ≡ table
+  pub no_rows : (table : List ℕ) → memw_after t records (Ok 0) table ≡ table
   unfolding memw_after table_after
   no_rows table = rw (flat_none, store_none)
 
-  pub next_row : (table now written : List ℕ) (k : ℕ) → now ≡ memw_after t records (Made k) table → written ≡ memw_row_at t records k
+  pub next_row : (table now written : List ℕ) (k : ℕ) → now ≡ memw_after t records (Ok k) table → written ≡ memw_row_at t records k
       → row_width t * k + row_width t ≤ length table
       → take (row_width t * k) now ++ (written ++ drop (row_width t * k + row_width t - row_width t * k) (drop (row_width t * k) now))
-      ≡ memw_after t records (Made (k + 1)) table
+      ≡ memw_after t records (Ok (k + 1)) table
   unfolding memw_after table_after
   next_row table now written k q e fits =
       tables.rows_more (row_width t) (record_width t) (record_row t) (table_padding t) (row_wide t) (padding_wide t) records table now written k q e fits
@@ -125,8 +125,8 @@ module _ (t : AccessTable) (records : List ℕ) where
 -- what the row of each good record has, and padding, every row of a made table has
 pub every_row : (t : AccessTable) (P : List ℕ → Type 0) (limit : ℕ) (records table : List ℕ) (rows : ℕ)
     → ((r : List ℕ) → good_record t r ≡ true → P (record_row t r)) → P (table_padding t)
-    → memw_answer t limit records (length table) ≡ Made rows → (k : ℕ) → k < rows
-    → P (record_at (row_width t) (memw_after t records (Made rows) table) k)
+    → memw_answer t limit records (length table) ≡ Ok rows → (k : ℕ) → k < rows
+    → P (record_at (row_width t) (memw_after t records (Ok rows) table) k)
 unfolding memw_answer memw_after
 every_row t P limit records table rows each pads made k h =
     tables.every_row (row_width t) (record_width t) (record_row t) (table_padding t) (row_wide t) (padding_wide t) records P (good_record t) limit rows

@@ -4,7 +4,7 @@ use Rattle.std.specs.Prelude.{ℕ, Bool, List, length, replicate}
 use Rattle.answer.specs.declared.Answer.{Answer}
 use Rattle.records.specs.Records.{record_count, first_bad}
 use Rattle.records.specs.Table.{table_answer, table_after, TableDone}
-use Rattle.records.specs.declared.TableAnswer.{TableAnswer}
+use Rattle.records.specs.Table.{TableAnswer}
 use Rattle.access.specs.Access.{access_of, good_access}
 use Rattle.access.specs.RegisterRecord.{good_register}
 use Rattle.access.specs.Tables.{record_width}

@@ -15,7 +15,7 @@ ghost use Rattle.access.specs.declared.AccessTable.TheVariants.{General, Aligned
 ghost use Rattle.memw.specs.Tables.{MemwDone};
 
 use access::AccessTable;
-use records::{LIMIT, TableAnswer};
+use records::{LIMIT, TableRefusal};
 
 // An access, of an access record of 29 numbers.
 #[derive(Clone, Copy)]
@@ -47,21 +47,27 @@ pub struct RegRow {
 
 // Makes the general table of at most 65,536 access records in `table`, 49 numbers to a row: the rows of the records in their order, then
 // zeros. Refuses with 8, 10 and 9, in this order, and then writes nothing; so do the other two.
-pub fn generate_memw_trace(records: &[u64], table: &mut [u64]) -> TableAnswer
+pub fn generate_memw_trace(records: &[u64], table: &mut [u64]) -> Result<usize, TableRefusal>
     ensures { MemwDone General LIMIT 8 records.now table.old (table_numbers 8 result) table.new }
 {
     trace::make(AccessTable::General, LIMIT, records, table)
 }
 
 // Makes the aligned table of at most 65,536 access records in `table`, 29 numbers to a row.
-pub fn generate_memw_aligned_trace(records: &[u64], table: &mut [u64]) -> TableAnswer
+pub fn generate_memw_aligned_trace(
+    records: &[u64],
+    table: &mut [u64],
+) -> Result<usize, TableRefusal>
     ensures { MemwDone Aligned LIMIT 8 records.now table.old (table_numbers 8 result) table.new }
 {
     trace::make(AccessTable::Aligned, LIMIT, records, table)
 }
 
 // Makes the register table of at most 65,536 register records of 8 numbers in `table`, 10 numbers to a row.
-pub fn generate_memw_register_trace(records: &[u64], table: &mut [u64]) -> TableAnswer
+pub fn generate_memw_register_trace(
+    records: &[u64],
+    table: &mut [u64],
+) -> Result<usize, TableRefusal>
     ensures { MemwDone Register LIMIT 8 records.now table.old (table_numbers 8 result) table.new }
 {
     trace::make(AccessTable::Register, LIMIT, records, table)

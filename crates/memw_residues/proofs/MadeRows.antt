@@ -27,17 +27,17 @@ use Rattle.memw.proofs.AccessTables.{register_read, every_row}
 use Rattle.memw_residues.specs.Residues.{memw_flags, flag_residue, memw_residue, aligned_residue, register_residues, register_residue}
 use Rattle.memw_residues.specs.Residues.{residue_count, table_residue}
 use Rattle.memw_residues.specs.MadeRows.{MadeRowsZero}
-use Rattle.memw_residues.specs.declared.Flags.{Flags}
+use Rattle.memw_residues.specs.Residues.{FlagNumbers}
 use Rattle.memw_residues.proofs.Zero.{all_zero, all_bits, sum_zero, FineFlags, flags_zero}
 
--- Flags
+-- FlagNumbers
 
 -- what holds of 0 and 1 holds of every bit
 bits : (P : ℕ → Type 0) (n : ℕ) → n ≤ 1 → P 0 → P 1 → P n
 bits P n h zero one = ⊎_elim (λ (e : n ≡ 1). rw e one) (λ (l : n < 1). let e : n ≡ 0 = omega arith in rw e zero) (eq-or-lt_of_le h)
 
 -- the flags of an access
-abbrev flags_of : ℕ → ℕ → Flags
+abbrev flags_of : ℕ → ℕ → FlagNumbers
 flags_of width is_read =
     record {
       mu_read = is_read;
@@ -107,7 +107,7 @@ row_zero Register r e i h =
     (all_zero (bit_p 0 ∷ bit_p 1 ∷ bit_p (add_p 0 1) ∷ []) (bit_zero 0 (omega arith), (bit_zero 1 (omega arith), (sum_zero 0 1 (omega arith), tt))) i)
     (all_zero (bit_p 1 ∷ bit_p 0 ∷ bit_p (add_p 1 0) ∷ []) (bit_zero 1 (omega arith), (bit_zero 0 (omega arith), (sum_zero 1 0 (omega arith), tt))) i)
 
-no_flags : (f : Flags) → f ≡ record { mu_read = 0; mu_write = 0; write2 = 0; write4 = 0; write8 = 0 } → FineFlags f
+no_flags : (f : FlagNumbers) → f ≡ record { mu_read = 0; mu_write = 0; write2 = 0; write4 = 0; write8 = 0 } → FineFlags f
 no_flags f e = rw e (record { one = omega arith; width = omega arith; access = omega arith })
 
 padding_zero : (t : AccessTable) (i : ℕ) → i < residue_count t → table_residue t (table_padding t) i ≡ 0

@@ -8,7 +8,7 @@ use Rattle.field.specs.Field.{add_p, bit_p}
 use Rattle.field.proofs.Laws.{bit_zero, add_p_small}
 use Rattle.field.proofs.Bits.{implies_zero}
 use Rattle.memw_residues.specs.Residues.{mu_sum, w2, flag_residues, flag_residue}
-use Rattle.memw_residues.specs.declared.Flags.{Flags}
+use Rattle.memw_residues.specs.Residues.{FlagNumbers}
 
 -- a list of zeros, one by one, has 0 at every index
 abbrev pub AllZero : List ℕ → Type 0
@@ -35,13 +35,13 @@ pub sum_zero : (x y : ℕ) → x + y < 2 → bit_p (add_p x y) ≡ 0
 sum_zero x y h = rw (add_p_small x y (omega arith)) (bit_zero (x + y) h)
 
 -- flags of which at most one of each kind is set, and a width only on an access
-pub record FineFlags (f : Flags) : Type 0 where
+pub record FineFlags (f : FlagNumbers) : Type 0 where
   pub one : f.mu_read + f.mu_write < 2
   pub width : f.write2 + f.write4 + f.write8 < 2
   pub access : f.write2 + f.write4 + f.write8 ≤ f.mu_read + f.mu_write
 
 -- zero their residues
-pub flags_zero : (f : Flags) → FineFlags f → (i : ℕ) → flag_residue f i ≡ 0
+pub flags_zero : (f : FlagNumbers) → FineFlags f → (i : ℕ) → flag_residue f i ≡ 0
 unfolding flag_residue
 flags_zero f fine i =
     all_zero (flag_residues f) (

@@ -1,13 +1,13 @@
--- Flags that are elements, as their residues ask. Document 01: "An element is a whole number below p". Cited
--- by the contracts of inner functions alone. Assumes nothing.
-use Rattle.std.specs.Prelude.{◌<◌}
-use Rattle.field.specs.Field.{p}
+-- The columns of flags as the code has them, in numbers: cited by the contracts of inner functions alone. Assumes nothing.
+use Rattle.memw_residues.specs.Residues.{FlagNumbers}
 use Rattle.memw_residues.specs.declared.Flags.{Flags}
 
--- each of the flags is an element
-pub record FlagElements (f : Flags) : Type 0 where
-  pub read : f.mu_read < p
-  pub write : f.mu_write < p
-  pub two : f.write2 < p
-  pub four : f.write4 < p
-  pub eight : f.write8 < p
+abbrev pub flag_numbers : Flags → FlagNumbers
+flag_numbers f =
+    record {
+      mu_read = f.mu_read.value;
+      mu_write = f.mu_write.value;
+      write2 = f.write2.value;
+      write4 = f.write4.value;
+      write8 = f.write8.value;
+    }

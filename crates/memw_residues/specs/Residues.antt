@@ -8,10 +8,16 @@ use Rattle.memw.specs.AlignedColumns as aligned
 use Rattle.memw.specs.RegisterColumns as register
 use Rattle.access.specs.declared.AccessTable.{AccessTable}
 use Rattle.access.specs.declared.AccessTable.TheVariants.{General, Aligned, Register}
-use Rattle.memw_residues.specs.declared.Flags.{Flags}
 
 -- the columns that both the general and the aligned table's residues read
-abbrev pub memw_flags : List ℕ → Flags
+pub record FlagNumbers : Type 0 where
+  pub mu_read : ℕ
+  pub mu_write : ℕ
+  pub write2 : ℕ
+  pub write4 : ℕ
+  pub write8 : ℕ
+
+abbrev pub memw_flags : List ℕ → FlagNumbers
 memw_flags row =
     record {
       mu_read = at row general.MU_READ;
@@ -21,7 +27,7 @@ memw_flags row =
       write8 = at row general.WRITE8;
     }
 
-abbrev pub aligned_flags : List ℕ → Flags
+abbrev pub aligned_flags : List ℕ → FlagNumbers
 aligned_flags row =
     record {
       mu_read = at row aligned.MU_READ;
@@ -32,15 +38,15 @@ aligned_flags row =
     }
 
 -- the sum of the multiplicities: whether the row is an access
-abbrev pub mu_sum : Flags → ℕ
+abbrev pub mu_sum : FlagNumbers → ℕ
 mu_sum f = add_p f.mu_read f.mu_write
 
 -- the sum of the width flags: whether it moves two bytes or more
-abbrev pub w2 : Flags → ℕ
+abbrev pub w2 : FlagNumbers → ℕ
 w2 f = add_p (add_p f.write2 f.write4) f.write8
 
 -- the eight residues without CARRY, in their order; first their number in the aligned table, then in the general one
-abbrev pub flag_residues : Flags → List ℕ
+abbrev pub flag_residues : FlagNumbers → List ℕ
 flag_residues f =
     -- 0, 0: the sum of the multiplicities is a bit
     bit_p (mu_sum f)
@@ -57,7 +63,7 @@ flag_residues f =
     ∷ bit_p (w2 f)
     ∷ []
 
-unfoldable pub flag_residue : Flags → ℕ → ℕ
+unfoldable pub flag_residue : FlagNumbers → ℕ → ℕ
 flag_residue f i = get_or (flag_residues f) i 0
 
 -- the general table: 0 to 3 are the first four of these, 4 to 10 the seven CARRY bits, 11 to 14 the last four

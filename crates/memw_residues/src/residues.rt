@@ -1,81 +1,70 @@
 // Internal to the workspace, not open to callers: the residues of the three access tables by their numbers. Assumes nothing but what each
 // `requires` says.
 ghost use Rattle.std.specs.Prelude.{◌≡◌, ◌<◌};
-ghost use Rattle.field.specs.Rows.{Elements};
-ghost use Rattle.memw.specs.Tables.{row_width};
-ghost use Rattle.access.specs.declared.AccessTable.TheVariants.{General, Aligned, Register};
-ghost use Rattle.memw_residues.specs.Residues.{memw_flags, aligned_flags, memw_residue, register_residue, residue_count, table_residue};
-ghost use Rattle.memw_residues.specs.Inner.{FlagElements};
+ghost use Rattle.access.specs.declared.AccessTable.TheVariants.{General, Register};
+ghost use Rattle.memw_residues.specs.Residues.{memw_flags, aligned_flags, memw_residue, register_residue, residue_count};
+ghost use Rattle.memw_residues.specs.Inner.{flag_numbers};
 ghost use Rattle.memw_residues.specs.Answers.{memw_residue_answer};
 
-use crate::equations::{bit, bit_of_sum, flag_residue};
-use crate::{Flags, MemwResidueAnswer};
+use crate::Flags;
+use crate::equations::{bit_of_sum, flag_residue};
 use access::AccessTable;
-use field::rows::{RowVerdict, row_verdict};
-use memw::tables::row_width;
+use field::element::Element;
+use field::rows::{ElementRow, RowRefusal, element_row};
 use memw::{aligned_cols, cols, register_cols};
 
 // The flags of a row of the general table.
-fn memw_flags(row: &[u64]) -> Flags
-    requires { Elements (row_width General) row.now }
-    ensures { (result ≡ memw_flags row.now) × FlagElements result }
+fn memw_flags(row: ElementRow<49>) -> Flags
+    ensures { flag_numbers result ≡ memw_flags row.entry.numbers.now }
 {
     Flags {
-        mu_read: row[cols::MU_READ],
-        mu_write: row[cols::MU_WRITE],
-        write2: row[cols::WRITE2],
-        write4: row[cols::WRITE4],
-        write8: row[cols::WRITE8],
+        mu_read: row.cell(cols::MU_READ),
+        mu_write: row.cell(cols::MU_WRITE),
+        write2: row.cell(cols::WRITE2),
+        write4: row.cell(cols::WRITE4),
+        write8: row.cell(cols::WRITE8),
     }
 }
 
 // The flags of a row of the aligned table.
-fn aligned_flags(row: &[u64]) -> Flags
-    requires { Elements (row_width Aligned) row.now }
-    ensures { (result ≡ aligned_flags row.now) × FlagElements result }
+fn aligned_flags(row: ElementRow<29>) -> Flags
+    ensures { flag_numbers result ≡ aligned_flags row.entry.numbers.now }
 {
     Flags {
-        mu_read: row[aligned_cols::MU_READ],
-        mu_write: row[aligned_cols::MU_WRITE],
-        write2: row[aligned_cols::WRITE2],
-        write4: row[aligned_cols::WRITE4],
-        write8: row[aligned_cols::WRITE8],
+        mu_read: row.cell(aligned_cols::MU_READ),
+        mu_write: row.cell(aligned_cols::MU_WRITE),
+        write2: row.cell(aligned_cols::WRITE2),
+        write4: row.cell(aligned_cols::WRITE4),
+        write8: row.cell(aligned_cols::WRITE8),
     }
 }
 
-// The general table's residue of a number: CARRY in 4..=10, the others are those of the flags.
-fn memw_equation(row: &[u64], number: u64) -> u64
-    requires { Elements (row_width General) row.now × (number < residue_count General) }
-    ensures { result ≡ memw_residue row.now number }
+// The general table's residue of a number: CARRY in 4..=10, whose bits could be any element without them; the others are those of the
+// flags.
+#[tactic(auto, unfolding(crate::specs::Residues::memw_residue))]
+fn memw_equation(row: ElementRow<49>, number: u64) -> Element
+    requires { number < residue_count General }
+    ensures { result.value ≡ memw_residue row.entry.numbers.now number }
 {
     match number {
         0..=3 => flag_residue(memw_flags(row), number),
-        4..=10 => bit(row, cols::CARRY_0 + (number - 4) as usize),
+        4..=10 => row.cell(cols::CARRY_0 + (number - 4) as usize).is_bit(),
         _ => flag_residue(memw_flags(row), number - 7),
     }
 }
 
-// The register table's residue of a number.
-fn register_equation(row: &[u64], number: u64) -> u64
-    requires { Elements (row_width Register) row.now × (number < residue_count Register) }
-    ensures { result ≡ register_residue row.now number }
+// The register table's residue of a number: its multiplicities are bits, and so is their sum.
+#[tactic(auto, unfolding(crate::specs::Residues::register_residue))]
+fn register_equation(row: ElementRow<10>, number: u64) -> Element
+    requires { number < residue_count Register }
+    ensures { result.value ≡ register_residue row.entry.numbers.now number }
 {
+    let read = row.cell(register_cols::MU_READ);
+    let write = row.cell(register_cols::MU_WRITE);
     match number {
-        0 => bit(row, register_cols::MU_READ),
-        1 => bit(row, register_cols::MU_WRITE),
-        _ => bit_of_sum(row[register_cols::MU_READ], row[register_cols::MU_WRITE]),
-    }
-}
-
-// A table's residue of a number.
-fn equation(t: AccessTable, row: &[u64], number: u64) -> u64
-    requires { Elements (row_width t) row.now × (number < residue_count t) }
-    ensures { result ≡ table_residue t row.now number }
-{
-    match t {
-        AccessTable::General => memw_equation(row, number),
-        AccessTable::Aligned => flag_residue(aligned_flags(row), number),
-        AccessTable::Register => register_equation(row, number),
+        0 => read.is_bit(),
+        1 => write.is_bit(),
+        _ => bit_of_sum(read, write),
     }
 }
 
@@ -91,11 +80,15 @@ fn residue_count(t: AccessTable) -> u64
 }
 
 // A table's residue of a number, or the first refusal that applies: 12, 13, 14.
-pub fn residue_in(t: AccessTable, row: &[u64], number: u64) -> MemwResidueAnswer
+#[tactic(auto, unfolding(crate::specs::Answers::memw_residue_answer, crate::specs::Residues::aligned_residue))]
+pub fn residue_in(t: AccessTable, row: &[u64], number: u64) -> Result<u64, RowRefusal>
     ensures { result ≡ memw_residue_answer t row.now number }
 {
-    match row_verdict(number < residue_count(t), row_width(t), row) {
-        RowVerdict::Fine => MemwResidueAnswer::Residue(equation(t, row, number)),
-        RowVerdict::Refused { why } => MemwResidueAnswer::Refused { why },
-    }
+    let inside = number < residue_count(t);
+    let residue = match t {
+        AccessTable::General => memw_equation(element_row(inside, row)?, number),
+        AccessTable::Aligned => flag_residue(aligned_flags(element_row(inside, row)?), number),
+        AccessTable::Register => register_equation(element_row(inside, row)?, number),
+    };
+    Ok(residue.value)
 }

@@ -4,15 +4,13 @@ use mathlib.Core.Bool.{true, ◌&&◌}
 use mathlib.Core.List.{List}
 use Prim.Native.Nat.{ℕ}
 use Rattle.field.specs.Rows.{Elements}
-use Rattle.field.specs.declared.rows.RowVerdict.TheVariants.{Fine}
+use Rattle.std.specs.Prelude.{Ok}
 use Rattle.field.proofs.Verdicts.{is_fine, fine_of, answer_of}
 use Rattle.copy_row.specs.Columns.{COLUMNS}
 use Rattle.operands.specs.Operands.{conditions_in_row, operands_in_row}
 use Rattle.operands.specs.Pairs.{carry_hi, residue_lo, residue_hi}
 use Rattle.operands.specs.Answers.{pair_verdict, pair_answer, carry_answer}
 use Rattle.operands.specs.declared.AddOperand.{AddOperand}
-use Rattle.operands.specs.declared.CarryAnswer.TheVariants as carry
-use Rattle.operands.specs.declared.PairAnswer.TheVariants as pair
 use Rattle.operands.proofs.Every.{both}
 
 -- what conditions, operands and a row are that are refused for nothing
@@ -21,7 +19,7 @@ pub record PairFine (conditions : List ℕ) (lhs rhs sum : AddOperand) (row : Li
   pub operands_in : operands_in_row lhs rhs sum ≡ true
   pub row_is : Elements COLUMNS row
 
-pub pair_fine : (conditions : List ℕ) (lhs rhs sum : AddOperand) (row : List ℕ) → pair_verdict conditions lhs rhs sum row ≡ Fine
+pub pair_fine : (conditions : List ℕ) (lhs rhs sum : AddOperand) (row : List ℕ) → pair_verdict conditions lhs rhs sum row ≡ Ok tt
     → PairFine conditions lhs rhs sum row
 unfolding pair_verdict
 pair_fine conditions lhs rhs sum row e =
@@ -31,12 +29,12 @@ pair_fine conditions lhs rhs sum row e =
 
 -- what is answered of them
 module _ (lhs rhs sum : AddOperand) (row : List ℕ) (r : Elements COLUMNS row) (o : operands_in_row lhs rhs sum ≡ true) where
-  pub carry_accepted : carry_answer lhs rhs sum row ≡ carry.Carry (carry_hi row lhs rhs sum)
+  pub carry_accepted : carry_answer lhs rhs sum row ≡ Ok (carry_hi row lhs rhs sum)
   unfolding carry_answer
   carry_accepted = sym (answer_of _ _ (fine_of _ COLUMNS row o r) refl)
 
   pub pair_accepted : (conditions : List ℕ) → conditions_in_row conditions ≡ true
       → pair_answer conditions lhs rhs sum row
-      ≡ pair.Residues (residue_lo conditions row lhs rhs sum) (residue_hi conditions row lhs rhs sum)
+      ≡ Ok (record { low = residue_lo conditions row lhs rhs sum; high = residue_hi conditions row lhs rhs sum })
   unfolding pair_answer pair_verdict
   pair_accepted conditions e = sym (answer_of _ _ (fine_of _ COLUMNS row (λ i. e i && o i) r) refl)

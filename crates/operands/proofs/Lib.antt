@@ -1,6 +1,5 @@
 pub mod Every
 pub mod Sums
-pub mod Signed
 pub mod Operands
 pub mod Pairs
 pub mod Answers

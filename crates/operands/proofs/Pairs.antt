@@ -1,13 +1,9 @@
--- The carries and residues of a sum of operands, from the values of its parts. Assumes nothing.
-use mathlib.Core.Path.{◌≡◌, ◌∙◌, ap}
-use mathlib.Core.List.{List}
-use Prim.Native.Nat.{ℕ}
-use borrow.Author.Tests.{eq-eqb, ne_eqb}
-use lib.ListN.{length}
-use Rattle.field.specs.Field.{mul_p, bit_p}
+-- The carries of a sum of operands from the values of its parts, and a number with and without conditions. Assumes nothing.
+use Rattle.std.proofs.Common.{◌≡◌, ℕ, List, length, ◌∙◌, eq-eqb, ne_eqb}
+use Rattle.field.specs.Field.{mul_p}
 use Rattle.field.specs.Carries.{carry_low, carry_high}
 use Rattle.operands.specs.Operands.{low_value, high_value}
-use Rattle.operands.specs.Pairs.{carry_lo, carry_hi, condition_sum, gated, residue_lo, residue_hi}
+use Rattle.operands.specs.Pairs.{carry_lo, carry_hi, condition_sum, gated}
 use Rattle.operands.specs.declared.AddOperand.{AddOperand}
 
 module _ (row : List ℕ) (lhs rhs sum : AddOperand) where
@@ -30,23 +26,11 @@ module _ (row : List ℕ) (lhs rhs sum : AddOperand) where
   unfolding carry_hi
   carry_hi_lem e f g k h = e ∙ (λ i. carry_high (f i) (g i) (k i) (h i))
 
--- with and without conditions
 module _ (conditions row : List ℕ) (x : ℕ) where
-  pub gated_none : length conditions ≡ 0 → x ≡ gated conditions row x
+  pub gated_none : length conditions ≡ 0 → gated conditions row x ≡ x
   unfolding gated
   gated_none h = simp (eq-eqb (length conditions) 0 h)
 
-  pub gated_some : {s r : ℕ} → (length conditions ≡ 0 → ⊥) → r ≡ mul_p s x → s ≡ condition_sum conditions row
-      → r ≡ gated conditions row x
+  pub gated_some : (length conditions ≡ 0 → ⊥) → gated conditions row x ≡ mul_p (condition_sum conditions row) x
   unfolding gated
-  gated_some h e f = simp (ne_eqb (length conditions) 0 h) (e ∙ ap (λ s. mul_p s x) f)
-
--- the residues of carries that are at hand
-module _ (conditions row : List ℕ) (lhs rhs sum : AddOperand) {c b r : ℕ} where
-  pub residue_lo_lem : c ≡ carry_lo row lhs rhs sum → b ≡ bit_p c → r ≡ gated conditions row b → r ≡ residue_lo conditions row lhs rhs sum
-  unfolding residue_lo
-  residue_lo_lem e f g = g ∙ ap (gated conditions row) (f ∙ ap bit_p e)
-
-  pub residue_hi_lem : c ≡ carry_hi row lhs rhs sum → b ≡ bit_p c → r ≡ gated conditions row b → r ≡ residue_hi conditions row lhs rhs sum
-  unfolding residue_hi
-  residue_hi_lem e f g = g ∙ ap (gated conditions row) (f ∙ ap bit_p e)
+  gated_some h = simp (ne_eqb (length conditions) 0 h)

@@ -1,15 +1,14 @@
 -- Operands by the constructors that copy.rs calls: `AddOperand::dword`, `linear`, `constant` and `from_dword_hl`. Assumes nothing.
-use Rattle.std.specs.Prelude.{ℕ, ◌+◌, List, [], ◌∷◌, ◌++◌, map, ℤ, pos, length, take, replicate}
+use Rattle.std.specs.Prelude.{ℕ, ◌+◌, List, [], ◌∷◌, ◌++◌, ℤ, pos, length, take, replicate}
 use Rattle.operands.specs.Operands.{TERMS}
 use Rattle.operands.specs.declared.AddLinearTerm.{AddLinearTerm}
 use Rattle.operands.specs.declared.AddLinearTerm.TheVariants.{Constant, Column}
 use Rattle.operands.specs.declared.AddOperand.{AddOperand}
 use Rattle.operands.specs.declared.OperandKind.TheVariants.{Words, Sums}
-use Rattle.operands.specs.declared.TermCell.{TermCell}
 
 -- an array of four terms; the constant 0 fills the places that are not used
-unfoldable pub cells : List AddLinearTerm → List TermCell
-cells terms = take TERMS (map (λ t. record { term = t }) terms ++ replicate TERMS (record { term = Constant (pos 0) }))
+unfoldable pub cells : List AddLinearTerm → List AddLinearTerm
+cells terms = take TERMS (terms ++ replicate TERMS (Constant (pos 0)))
 
 -- the two word columns from column c on
 unfoldable pub dword : ℕ → AddOperand

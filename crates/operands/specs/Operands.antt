@@ -10,7 +10,6 @@ use Rattle.operands.specs.declared.AddLinearTerm.TheVariants.{Constant, Column}
 use Rattle.operands.specs.declared.AddOperand.{AddOperand}
 use Rattle.operands.specs.declared.OperandKind.{OperandKind}
 use Rattle.operands.specs.declared.OperandKind.TheVariants.{Words, Sums}
-use Rattle.operands.specs.declared.TermCell.{TermCell}
 
 -- Values
 
@@ -30,19 +29,19 @@ term_value row (Constant n) = signed_p n
 term_value row (Column n c) = mul_p (signed_p n) (at row c)
 
 -- term k of an array
-abbrev pub term_at : List TermCell → ℕ → AddLinearTerm
-term_at terms k = (get_or terms k (record { term = Constant (pos 0) })).term
+abbrev pub term_at : List AddLinearTerm → ℕ → AddLinearTerm
+term_at terms k = get_or terms k (Constant (pos 0))
 
 -- the sum of the first n terms of an array
-abbrev pub terms_value : List ℕ → List TermCell → ℕ → ℕ
+abbrev pub terms_value : List ℕ → List AddLinearTerm → ℕ → ℕ
 terms_value row terms n = sum_p (λ k. term_value row (term_at terms k)) n
 
 -- an operand's low and high value, by its kind and the array that stands beside it
-unfoldable pub low_of : List ℕ → OperandKind → List TermCell → ℕ
+unfoldable pub low_of : List ℕ → OperandKind → List AddLinearTerm → ℕ
 low_of row (Words c) terms = at row c
 low_of row (Sums m n) terms = terms_value row terms m
 
-unfoldable pub high_of : List ℕ → OperandKind → List TermCell → ℕ
+unfoldable pub high_of : List ℕ → OperandKind → List AddLinearTerm → ℕ
 high_of row (Words c) terms = at row (c + 1)
 high_of row (Sums m n) terms = terms_value row terms n
 
@@ -69,11 +68,11 @@ abbrev pub TERMS : ℕ
 TERMS = 4
 
 -- whether a sum has at most four terms, and the first n terms of its array are in the row
-unfoldable pub sum_in_row : List TermCell → ℕ → Bool
+unfoldable pub sum_in_row : List AddLinearTerm → ℕ → Bool
 sum_in_row terms n = leb n TERMS && every (λ k. term_in_row (term_at terms k)) n
 
 -- of two neighbouring columns both must be in the row
-unfoldable pub kind_in_row : OperandKind → List TermCell → List TermCell → Bool
+unfoldable pub kind_in_row : OperandKind → List AddLinearTerm → List AddLinearTerm → Bool
 kind_in_row (Words c) low high = ltb (c + 1) COLUMNS
 kind_in_row (Sums m n) low high = sum_in_row low m && sum_in_row high n
 

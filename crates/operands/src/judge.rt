@@ -1,14 +1,16 @@
 // Internal to the workspace, not open to callers: refusal 12 of operands and condition columns, and with it 12, 13 and 14 of a row.
 // Assumes nothing.
-ghost use Rattle.std.specs.Prelude.{◌≡◌};
+ghost use Rattle.std.specs.Prelude.{◌≡◌, Ok, Err, IfOk, IfErr};
 ghost use Rattle.operands.specs.Operands.{term_in_row, sum_in_row, operand_in_row, operands_in_row, conditions_in_row};
 ghost use Rattle.operands.specs.Answers.{pair_verdict};
 
-use crate::{AddLinearTerm, AddOperand, OperandKind, TermCell};
+use crate::{AddLinearTerm, AddOperand, OperandKind};
+use copy_residues::CopyRow;
 use copy_row::cols::NUM_COLUMNS;
-use field::rows::{RowVerdict, row_verdict};
+use field::rows::{RowRefusal, element_row};
 
 // Whether a term's column, where it has one, is in a copy row.
+#[tactic(auto, unfolding(crate::specs::Operands::term_in_row))]
 fn term_in_row(t: AddLinearTerm) -> bool
     ensures { result ≡ term_in_row t }
 {
@@ -22,40 +24,34 @@ fn term_in_row(t: AddLinearTerm) -> bool
 }
 
 // Whether a sum has at most four terms, and the first n terms of its array are in a copy row.
-fn sum_in_row(terms: [TermCell; 4], n: usize) -> bool
+#[tactic(auto, using(crate::proofs::Operands::sum_many))]
+fn sum_in_row(terms: [AddLinearTerm; 4], n: usize) -> bool
     ensures { result ≡ sum_in_row terms n }
 {
     if 4 < n {
         return false;
     }
-    let mut k = 0;
-    while k < n {
-        let cell = terms[k];
-        let t = cell.term;
-        if !term_in_row(t) {
+    for k in 0..n {
+        if !term_in_row(terms[k]) {
             return false;
         }
-        k += 1;
     }
     true
 }
 
 // Whether an operand has at most four terms in each sum, and all its columns in a copy row.
+#[tactic(auto, unfolding(crate::specs::Operands::kind_in_row))]
 fn operand_in_row(o: AddOperand) -> bool
     ensures { result ≡ operand_in_row o }
 {
-    let kind = o.kind;
-    match kind {
+    match o.kind {
         OperandKind::Words { column } => column < NUM_COLUMNS - 1,
-        OperandKind::Sums { low, high } => {
-            let low_terms = o.low;
-            let high_terms = o.high;
-            sum_in_row(low_terms, low) & sum_in_row(high_terms, high)
-        }
+        OperandKind::Sums { low, high } => sum_in_row(o.low, low) & sum_in_row(o.high, high),
     }
 }
 
 // Whether the three operands of a sum do.
+#[tactic(auto, unfolding(crate::specs::Operands::operands_in_row))]
 pub fn operands_in_row(lhs: AddOperand, rhs: AddOperand, sum: AddOperand) -> bool
     ensures { result ≡ operands_in_row lhs rhs sum }
 {
@@ -66,29 +62,28 @@ pub fn operands_in_row(lhs: AddOperand, rhs: AddOperand, sum: AddOperand) -> boo
 fn conditions_in_row(conditions: &[u64]) -> bool
     ensures { result ≡ conditions_in_row conditions.now }
 {
-    let mut k = 0;
-    while k < conditions.len() {
-        if NUM_COLUMNS as u64 <= conditions[k] {
+    for column in conditions {
+        if NUM_COLUMNS as u64 <= *column {
             return false;
         }
-        k += 1;
     }
     true
 }
 
-// What condition columns, three operands and a row are found to be.
-pub fn pair_verdict(
+// A row as elements, where nothing is refused of condition columns, three operands and the row.
+#[tactic(auto, unfolding(crate::specs::Answers::pair_verdict))]
+pub fn pair_row<'a>(
     conditions: &[u64],
     lhs: AddOperand,
     rhs: AddOperand,
     sum: AddOperand,
-    row: &[u64],
-) -> RowVerdict
-    ensures { result ≡ pair_verdict conditions.now lhs rhs sum row.now }
+    row: &'a [u64],
+) -> Result<CopyRow<'a>, RowRefusal>
+    ensures ok { IfOk result (λ r. (r.numbers.now ≡ row.now) × (pair_verdict conditions.now lhs rhs sum row.now ≡ Ok tt)) }
+    ensures err { IfErr result (λ why. pair_verdict conditions.now lhs rhs sum row.now ≡ Err why) }
 {
-    row_verdict(
+    element_row(
         conditions_in_row(conditions) & operands_in_row(lhs, rhs, sum),
-        NUM_COLUMNS,
         row,
     )
 }

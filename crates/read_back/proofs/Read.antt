@@ -8,23 +8,25 @@ use native.Mathlib.Omega.{arith}
 use borrow.Author.Tests.{leb-true, le-leb}
 use lib.Dec.{leb}
 use lib.ListN.{length}
+use Rattle.std.specs.Prelude.{Ok, Err}
 use Rattle.lists.specs.Lists.{store}
 use Rattle.call.specs.Ops.{OP_WIDTH}
 use Rattle.call.specs.Flat.{CALL_WIDTH}
 use Rattle.copy_row.specs.Columns.{COLUMNS}
 use Rattle.chain.specs.Chain.{chain_answer}
-use Rattle.chain.specs.declared.ChainAnswer.TheVariants as chain
 use Rattle.chain.specs.declared.ChainRefusal.{ChainRefusal}
 use Rattle.chain.proofs.Passed.{Accepted, passing, passing_caps}
-use Rattle.read_back.specs.ReadBack.{read_ops, read_calls, room_answer, read_back_answer, ops_after, calls_after, read_back_numbers, ReadDone}
+use Rattle.read_back.specs.ReadBack.{ReadBackAnswer, read_ops, read_calls, read_counts, room_answer, read_back_answer, ops_after, calls_after, read_back_numbers, ReadDone}
 use Rattle.read_back.specs.Inner.{rows_read, numbers_read, holds_read, RowsFit, CountsOf}
-use Rattle.read_back.specs.declared.ReadBackAnswer.{ReadBackAnswer}
-use Rattle.read_back.specs.declared.ReadBackAnswer.TheVariants.{Read, Refused, BufferShort}
-use Rattle.read_back.specs.declared.rows.Counts.{Counts}
+use Rattle.read_back.specs.declared.ReadBackRefusal.TheVariants.{Chain, BufferShort}
+use Rattle.read_back.specs.declared.Counts.{Counts}
 use Rattle.read_back.proofs.Walk.{rows_most, numbers_length}
 
-pub passed_fit : (gap : ℕ) (l : List ℕ) → Accepted (chain_answer gap l) → RowsFit l
-passed_fit gap l e = let p = passing gap l e in record { whole = p.whole; caps = passing_caps gap l p }
+pub passed_fit : (gap : ℕ) (l : List ℕ) (rows : ℕ) → chain_answer gap l ≡ Ok rows → RowsFit l
+passed_fit gap l rows e =
+    let accepted : Accepted (chain_answer gap l) = rw e refl in
+    let p = passing gap l accepted in
+    record { whole = p.whole; caps = passing_caps gap l p }
 
 -- The room
 
@@ -59,7 +61,7 @@ module _ (l : List ℕ) (room_ops calls_room : ℕ) where
   holds_counted counts is = rw (is.is_ops, is.is_calls)
 
   room_answer_lem : room_answer l room_ops calls_room
-      ≡ cond (holds_read l room_ops calls_room) (Read (length (rows_read false l)) (length (rows_read true l))) BufferShort
+      ≡ cond (holds_read l room_ops calls_room) (Ok (read_counts l)) (Err BufferShort)
   unfolding room_answer read_ops read_calls numbers_read rows_read holds_read
   room_answer_lem = rw (numbers_length false l, numbers_length true l)
 
@@ -69,24 +71,24 @@ module _ (gap : ℕ) (l ops calls : List ℕ) where
   abbrev answer : ReadBackAnswer
   answer = read_back_answer gap l (length ops) (length calls)
 
-  pub refused : (why : ChainRefusal) → chain_answer gap l ≡ chain.Refused why
-      → ReadDone gap l ops calls (read_back_numbers (Refused why)) ops calls
+  pub refused : (why : ChainRefusal) → chain_answer gap l ≡ Err why
+      → ReadDone gap l ops calls (read_back_numbers (Err (Chain why))) ops calls
   unfolding read_back_answer ops_after calls_after
   refused why e = record { answer = rw e; ops_left = rw e; calls_left_lem = rw e }
 
-  module _ (rows : ℕ) (passed : chain_answer gap l ≡ chain.Passed rows) where
+  module _ (rows : ℕ) (passed : chain_answer gap l ≡ Ok rows) where
     by_room : (b : Bool) → holds_read l (length ops) (length calls) ≡ b
-        → answer ≡ cond b (Read (length (rows_read false l)) (length (rows_read true l))) BufferShort
+        → answer ≡ cond b (Ok (read_counts l)) (Err BufferShort)
     unfolding read_back_answer
     by_room b e = rw passed (room_answer_lem l (length ops) (length calls) ∙ rw e)
 
-    pub short : holds_read l (length ops) (length calls) ≡ false → ReadDone gap l ops calls (read_back_numbers BufferShort) ops calls
+    pub short : holds_read l (length ops) (length calls) ≡ false → ReadDone gap l ops calls (read_back_numbers (Err BufferShort)) ops calls
     unfolding ops_after calls_after
     short e = let a = by_room false e in record { answer = rw a; ops_left = rw a; calls_left_lem = rw a }
 
     pub read : holds_read l (length ops) (length calls) ≡ true → (counts : Counts) → CountsOf l counts → (ops_later calls_later : List ℕ)
         → ops_later ≡ store ops 0 (numbers_read false l) → calls_later ≡ store calls 0 (numbers_read true l)
-        → ReadDone gap l ops calls (read_back_numbers (Read counts.ops counts.calls)) ops_later calls_later
+        → ReadDone gap l ops calls (read_back_numbers (Ok counts)) ops_later calls_later
     unfolding ops_after calls_after read_ops read_calls numbers_read rows_read
     read e counts is ops_later calls_later written told =
         let a = by_room true e in

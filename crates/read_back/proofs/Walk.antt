@@ -87,29 +87,3 @@ module _ (l : List ℕ) (fit : RowsFit l) where
 pub numbers_length : (calls : Bool) (l : List ℕ) → length (numbers_read calls l) ≡ width_of calls * length (rows_read calls l)
 unfolding numbers_read
 numbers_length calls l = flat_map_length (width_of calls) (numbers_of calls) (rows_read calls l) (all_of (numbers_wide calls) (rows_read calls l))
-
--- One row: passed over, or its numbers r of w, which are those of its kind, behind the j before it
-
-module _ (calls : Bool) (row out : List ℕ) (j : ℕ) where
-  pub passed_over : is_read calls row ≡ false
-      → (j ≡ one_more (is_read calls row) j) × (out ≡ placed (is_read calls row) (width_of calls) j (numbers_of calls row) out)
-  passed_over other =
-      (ap (λ (b : Bool). one_more b j) (sym other), ap (λ (b : Bool). placed b (width_of calls) j (numbers_of calls row) out) (sym other))
-
-  module _ (read : is_read calls row ≡ true) (which : Bool) (e : calls ≡ which) where
-    -- there is room for it
-    pub room_for : width_of calls * j + width_of calls ≤ length out → width_of which * j + width_of which ≤ length out
-    room_for = subst (λ (b : Bool). width_of b * j + width_of b ≤ length out) e
-
-    pub written_row : (r later : List ℕ) → r ≡ numbers_of which row → later ≡ store out (width_of which * j) r
-        → (j + 1 ≡ one_more (is_read calls row) j) × (later ≡ placed (is_read calls row) (width_of calls) j (numbers_of calls row) out)
-    written_row r later is put = (
-      ap (λ (b : Bool). one_more b j) (sym read),
-      put ∙ (λ i. store out (width i * j) (numbers i)) ∙ ap (λ (b : Bool). placed b (width_of calls) j (numbers_of calls row) out) (sym read),
-    )
-      where
-        numbers : r ≡ numbers_of calls row
-        numbers = is ∙ ap (λ (b : Bool). numbers_of b row) (sym e)
-
-        width : width_of which ≡ width_of calls
-        width = ap width_of (sym e)

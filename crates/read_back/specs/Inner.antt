@@ -10,7 +10,7 @@ use Rattle.copy_meaning.specs.ReadRow.{call_at, op_at}
 use Rattle.row_test.specs.Inner.{Caps}
 use Rattle.chain.specs.Chain.{table_rows}
 use Rattle.read_back.specs.ReadBack.{is_live, is_opening}
-use Rattle.read_back.specs.declared.rows.Counts.{Counts}
+use Rattle.read_back.specs.declared.Counts.{Counts}
 
 -- whether a row is read, what of it, and how many numbers that is
 abbrev pub is_read : Bool → List ℕ → Bool

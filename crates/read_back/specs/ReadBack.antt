@@ -1,6 +1,6 @@
 -- Read-back. Document 01: "Read-back writes one operation record for each live row and five numbers for each call", "Read-back checks the
 -- chain, then 9". A call is read off its row with FIRST. Assumes nothing.
-use Rattle.std.specs.Prelude.{◌≡◌, ℕ, Bool, cond, ◌&&◌, eqb, leb, length}
+use Rattle.std.specs.Prelude.{◌≡◌, ℕ, Bool, cond, ◌&&◌, eqb, leb, length, Result, Ok, Err}
 use mathlib.Core.List.{List, [], ◌∷◌, flat_map}
 use Rattle.answer.specs.Numbers.{accepted, refused}
 use Rattle.answer.specs.declared.Answer.{Answer}
@@ -9,11 +9,10 @@ use Rattle.call.specs.Ops.{op_record}
 use Rattle.call.specs.Flat.{call_numbers}
 use Rattle.copy_row.specs.Columns.{FIRST, MU}
 use Rattle.copy_meaning.specs.ReadRow.{call_at, op_at}
-use Rattle.chain.specs.Chain.{table_rows, chain_answer, refusal_numbers}
-use Rattle.chain.specs.declared.ChainAnswer as Chain
-use Rattle.chain.specs.declared.ChainAnswer.TheVariants as chain
-use Rattle.read_back.specs.declared.ReadBackAnswer.{ReadBackAnswer}
-use Rattle.read_back.specs.declared.ReadBackAnswer.TheVariants.{Read, Refused, BufferShort}
+use Rattle.chain.specs.Chain.{ChainAnswer, table_rows, chain_answer, refusal_numbers}
+use Rattle.read_back.specs.declared.Counts.{Counts}
+use Rattle.read_back.specs.declared.ReadBackRefusal.{ReadBackRefusal}
+use Rattle.read_back.specs.declared.ReadBackRefusal.TheVariants.{Chain, BufferShort}
 
 -- whether a row is live, and whether it is a call's first
 abbrev pub is_live : List ℕ → Bool
@@ -36,17 +35,23 @@ read_ops l = flat_map (λ row. op_record (op_at row)) (live_rows (table_rows l))
 unfoldable pub read_calls : List ℕ → List ℕ
 read_calls l = flat_map (λ row. call_numbers (call_at row)) (opening_rows (table_rows l))
 
+-- what read-back answers: how many records and calls it writes, or why it writes none
+abbrev pub ReadBackAnswer : Type 0
+ReadBackAnswer = Result Counts ReadBackRefusal
+
+-- how many records and calls that is
+abbrev pub read_counts : List ℕ → Counts
+read_counts l = record { ops = length (live_rows (table_rows l)); calls = length (opening_rows (table_rows l)) }
+
 -- what is answered of a list that passes, by the lengths of the two buffers: how many records and calls are read, or 9
 unfoldable pub room_answer : List ℕ → ℕ → ℕ → ReadBackAnswer
 room_answer l room_ops calls_room =
-    cond (leb (length (read_ops l)) room_ops && leb (length (read_calls l)) calls_room)
-    (Read (length (live_rows (table_rows l))) (length (opening_rows (table_rows l))))
-    BufferShort
+    cond (leb (length (read_ops l)) room_ops && leb (length (read_calls l)) calls_room) (Ok (read_counts l)) (Err BufferShort)
 
 -- the chain check's refusal, unchanged; where it refuses nothing, `next` decides
-abbrev pub on_chain : Chain.ChainAnswer → ReadBackAnswer → ReadBackAnswer
-on_chain (chain.Passed rows) next = next
-on_chain (chain.Refused why) next = Refused why
+abbrev pub on_chain : ChainAnswer → ReadBackAnswer → ReadBackAnswer
+on_chain (Ok rows) next = next
+on_chain (Err why) next = Err (Chain why)
 
 -- the whole answer
 unfoldable pub read_back_answer : ℕ → List ℕ → ℕ → ℕ → ReadBackAnswer
@@ -54,9 +59,8 @@ read_back_answer gap l room_ops calls_room = on_chain (chain_answer gap l) (room
 
 -- what a buffer holds afterwards: a refusal writes nothing
 abbrev pub if_read : ReadBackAnswer → List ℕ → List ℕ → List ℕ
-if_read (Read ops calls) written kept = written
-if_read (Refused why) written kept = kept
-if_read BufferShort written kept = kept
+if_read (Ok counts) written kept = written
+if_read (Err why) written kept = kept
 
 -- the two lent buffers afterwards; numbers past the result keep their values
 unfoldable pub ops_after : ReadBackAnswer → List ℕ → List ℕ → List ℕ
@@ -65,15 +69,19 @@ ops_after answer l ops = if_read answer (store ops 0 (read_ops l)) ops
 unfoldable pub calls_after : ReadBackAnswer → List ℕ → List ℕ → List ℕ
 calls_after answer l calls = if_read answer (store calls 0 (read_calls l)) calls
 
--- document 01's number, place and value of each case, the value being the number of operation records; and the number of calls
+-- document 01's number and place of each refusal
+abbrev pub read_back_refusal_numbers : ReadBackRefusal → Answer
+read_back_refusal_numbers (Chain why) = refusal_numbers why
+read_back_refusal_numbers BufferShort = refused 9 0
+
+-- and of each answer, whose value is the number of operation records; and the number of calls
 pub record ReadBackNumbers : Type 0 where
   pub answer : Answer
   pub calls : ℕ
 
 abbrev pub read_back_numbers : ReadBackAnswer → ReadBackNumbers
-read_back_numbers (Read ops calls) = record { answer = accepted ops; calls = calls }
-read_back_numbers (Refused why) = record { answer = refusal_numbers why; calls = 0 }
-read_back_numbers BufferShort = record { answer = refused 9 0; calls = 0 }
+read_back_numbers (Ok counts) = record { answer = accepted counts.ops; calls = counts.calls }
+read_back_numbers (Err why) = record { answer = read_back_refusal_numbers why; calls = 0 }
 
 -- what `read_back` has to show: its numbers, and the two lent buffers when it is done
 pub record ReadDone (gap : ℕ) (l ops calls : List ℕ) (numbers : ReadBackNumbers) (ops_later calls_later : List ℕ) : Type 0 where

@@ -3,11 +3,9 @@
 use mathlib.Core.Path.{◌≡◌, refl, ap, ◌∙◌}
 use mathlib.Core.Logic.{⊎_elim}
 use mathlib.Core.Bool.{Bool, true, false, cond}
-use mathlib.Core.List.{List, [], ◌∷◌, ◌++◌, append_assoc}
+use mathlib.Core.List.{List, ◌++◌, append_assoc}
 use Prim.Native.Nat.{ℕ, ◌+◌, ◌-◌, ◌*◌, ◌≤◌, ◌<◌, zero, suc}
 use native.Mathlib.Omega.{arith}
-use denote.Enum.Declared.{tag_of}
-use types.Run.{OneOf, miss}
 use borrow.Author.Tests.{lt-ltb, le-ltb, le-leb, lt-leb, leb-true, ltb-true, ltb-false}
 use lib.Dec.{ltb, leb}
 use lib.ListN.{length, take, drop}
@@ -18,9 +16,9 @@ use Rattle.lists.proofs.Store.{length_store, store_eq}
 use Rattle.lists.proofs.Flat.{flat_length, flat_placed}
 use Rattle.records.specs.Records.{record_count, record_at, first_bad}
 use Rattle.records.specs.RowCount.{row_count}
-use Rattle.records.specs.Table.{table_answer, row_at, table_after}
-use Rattle.records.specs.declared.TableAnswer.{TableAnswer}
-use Rattle.records.specs.declared.TableAnswer.TheVariants.{Made, TooManyRecords, BadRecord, BufferShort}
+use Rattle.records.specs.Table.{TableAnswer, table_answer, row_at, table_after}
+use Rattle.std.specs.Prelude.{Ok, Err}
+use Rattle.records.specs.declared.TableRefusal.TheVariants.{TooManyRecords, BadRecord, BufferShort}
 use Rattle.records.proofs.Records.{all_good}
 
 -- Rows one behind the other
@@ -52,12 +50,12 @@ pub record MadeFacts (limit v n bad room rows : ℕ) : Type 0 where
   pub count : rows ≡ row_count n
 
 module _ (limit v n bad room : ℕ) where
-  pub made_facts : (rows : ℕ) → table_answer limit v n bad room ≡ Made rows → MadeFacts limit v n bad room rows
+  pub made_facts : (rows : ℕ) → table_answer limit v n bad room ≡ Ok rows → MadeFacts limit v n bad room rows
   unfolding table_answer
   made_facts rows e = step _ _ _ refl refl refl e
     where
       step : (x y z : Bool) → ltb limit n ≡ x → ltb bad n ≡ y → leb (v * row_count n) room ≡ z
-          → cond x TooManyRecords (cond y (BadRecord bad) (cond z (Made (row_count n)) BufferShort)) ≡ Made rows
+          → cond x (Err TooManyRecords) (cond y (Err (BadRecord bad)) (cond z (Ok (row_count n)) (Err BufferShort))) ≡ Ok rows
           → MadeFacts limit v n bad room rows
       step true y z hx hy hz e = let q : ◌≡◌ {A = ℕ} 0 1 = cc in absurd (omega arith)
       step false true z hx hy hz e = let q : ◌≡◌ {A = ℕ} 0 1 = cc in absurd (omega arith)
@@ -67,19 +65,19 @@ module _ (limit v n bad room : ℕ) where
           record { allowed = ltb-false _ _ hx; fine = ltb-false _ _ hy; fits = rw q (leb-true _ _ hz); count = q }
 
   -- the cases, in document 01's order
-  pub answer_over : limit < n → table_answer limit v n bad room ≡ TooManyRecords
+  pub answer_over : limit < n → table_answer limit v n bad room ≡ Err TooManyRecords
   unfolding table_answer
   answer_over h = rw (lt-ltb limit n h)
 
-  pub answer_bad : n ≤ limit → bad < n → table_answer limit v n bad room ≡ BadRecord bad
+  pub answer_bad : n ≤ limit → bad < n → table_answer limit v n bad room ≡ Err (BadRecord bad)
   unfolding table_answer
   answer_bad h b = rw (le-ltb limit n h, lt-ltb bad n b)
 
-  pub answer_short : n ≤ limit → n ≤ bad → room < v * row_count n → table_answer limit v n bad room ≡ BufferShort
+  pub answer_short : n ≤ limit → n ≤ bad → room < v * row_count n → table_answer limit v n bad room ≡ Err BufferShort
   unfolding table_answer
   answer_short h b r = rw (le-ltb limit n h, le-ltb bad n b, lt-leb (v * row_count n) room r)
 
-  pub answer_made : n ≤ limit → n ≤ bad → v * row_count n ≤ room → table_answer limit v n bad room ≡ Made (row_count n)
+  pub answer_made : n ≤ limit → n ≤ bad → v * row_count n ≤ room → table_answer limit v n bad room ≡ Ok (row_count n)
   unfolding table_answer
   answer_made h b r = rw (le-ltb limit n h, le-ltb bad n b, le-leb (v * row_count n) room r)
 
@@ -114,15 +112,15 @@ module _
 
   -- row k of a made table
   pub made_row : (table : List ℕ) (rows k : ℕ) → v * rows ≤ length table → k < rows
-      → record_at v (table_after w row padding l (Made rows) table) k ≡ row_at w row padding l k
+      → record_at v (table_after w row padding l (Ok rows) table) k ≡ row_at w row padding l k
   unfolding table_after
   made_row table rows k fits h = flat_row v (row_at w row padding l) row_length table rows k fits h
 
   -- what the padding has, and the row of each good record, every row of a made table has
   pub every_row : (P : List ℕ → Type 0) (good : List ℕ → Bool) (limit rows : ℕ) (table : List ℕ)
       → ((r : List ℕ) → good r ≡ true → P (row r)) → P padding
-      → table_answer limit v (record_count w l) (first_bad w good l) (length table) ≡ Made rows
-      → (k : ℕ) → k < rows → P (record_at v (table_after w row padding l (Made rows) table) k)
+      → table_answer limit v (record_count w l) (first_bad w good l) (length table) ≡ Ok rows
+      → (k : ℕ) → k < rows → P (record_at v (table_after w row padding l (Ok rows) table) k)
   unfolding row_at
   every_row P good limit rows table each pads made k h = rw (made_row table rows k facts.fits h) (step _ refl)
     where
@@ -137,16 +135,12 @@ module _
 pub after_length : (w : ℕ) (row : List ℕ → List ℕ) (padding l : List ℕ) (a : TableAnswer) (table : List ℕ)
     → length (table_after w row padding l a table) ≡ length table
 unfolding table_after
-after_length w row padding l (Made rows) table = length_store table 0 _
-after_length w row padding l TooManyRecords table = refl
-after_length w row padding l (BadRecord place) table = refl
-after_length w row padding l BufferShort table = refl
+after_length w row padding l (Ok rows) table = length_store table 0 _
+after_length w row padding l (Err why) table = refl
 
--- a refusal writes nothing; its case is not the first, which is Made
+-- a refusal writes nothing; its case is not the first, which is Ok
 pub refused_keeps : (w : ℕ) (row : List ℕ → List ℕ) (padding l table : List ℕ) (answer : TableAnswer)
-    → ((rows : ℕ) → answer ≡ Made rows → ⊥) → table ≡ table_after w row padding l answer table
+    → ((rows : ℕ) → answer ≡ Ok rows → ⊥) → table ≡ table_after w row padding l answer table
 unfolding table_after
-refused_keeps w row padding l table (Made rows) h = absurd (h rows refl)
-refused_keeps w row padding l table TooManyRecords h = refl
-refused_keeps w row padding l table (BadRecord place) h = refl
-refused_keeps w row padding l table BufferShort h = refl
+refused_keeps w row padding l table (Ok rows) h = absurd (h rows refl)
+refused_keeps w row padding l table (Err why) h = refl

@@ -5,7 +5,7 @@ ghost use Rattle.records.specs.Records.{record_count, record_at, within};
 ghost use Rattle.records.specs.RowCount.{row_count};
 ghost use Rattle.records.specs.Table.{table_answer};
 
-use crate::TableAnswer;
+use crate::TableRefusal;
 
 // How many records of `w` numbers the list has, a cut last one counted.
 pub fn record_count(list: &[u64], w: usize) -> usize
@@ -28,6 +28,7 @@ pub fn record_at(list: &[u64], w: usize, k: usize) -> &[u64]
 }
 
 // Whether `r` is whole and each of its numbers is at most its limit. Every number is looked at, which asks no branch for each.
+#[tactic(auto, using(crate::proofs::Records::any_none, crate::proofs::Records::any_more, crate::proofs::Records::within_cut, crate::proofs::Records::within_any))]
 pub fn within_limits(r: &[u64], limits: &[u64]) -> bool
     ensures { result ≡ within limits.now r.now }
 {
@@ -35,10 +36,8 @@ pub fn within_limits(r: &[u64], limits: &[u64]) -> bool
         return false;
     }
     let mut above = false;
-    let mut i = 0;
-    while i < limits.len() {
-        above = above | (limits[i] < r[i]);
-        i += 1;
+    for (i, limit) in limits.iter().enumerate() {
+        above = above | (*limit < r[i]);
     }
     !above
 }
@@ -58,16 +57,17 @@ pub fn row_count(n: u64) -> u64
 
 // The answer for `n` records, no more than any limit allows, of which `bad` is the lowest refused one, rows of `v` numbers and a lent table
 // of `room` numbers.
-pub fn table_answer(v: usize, n: usize, bad: usize, room: usize) -> TableAnswer
+#[tactic(auto, using(crate::proofs::Table::answer_bad, crate::proofs::Table::answer_short, crate::proofs::Table::answer_made))]
+pub fn table_answer(v: usize, n: usize, bad: usize, room: usize) -> Result<usize, TableRefusal>
     requires { (n ≤ 2 ^ 20) × (v ≤ 64) }
     ensures { (limit : ℕ) → n ≤ limit → result ≡ table_answer limit v n bad room }
 {
     if bad < n {
-        return TableAnswer::BadRecord { place: bad };
+        return Err(TableRefusal::BadRecord { place: bad });
     }
     let rows = row_count(n as u64) as usize;
     if room < v * rows {
-        return TableAnswer::BufferShort;
+        return Err(TableRefusal::BufferShort);
     }
-    TableAnswer::Made { rows }
+    Ok(rows)
 }

@@ -4,6 +4,7 @@ use mathlib.Core.Path.{◌≡◌, refl, sym, ap, ◌∙◌}
 use mathlib.Core.Bool.{Bool, true, false, cond, and-true}
 use mathlib.Core.List.{List}
 use Prim.Native.Nat.{ℕ, ◌%◌}
+use Rattle.std.specs.Prelude.{Result, Ok, Err}
 use native.Mathlib.Omega.{arith}
 use borrow.Author.Tests.{eq-eqb}
 use lib.Dec.{eqb}
@@ -19,9 +20,8 @@ use Rattle.classify.specs.declared.AccessRoute.{AccessRoute}
 use Rattle.classify.specs.declared.MemwRoute.TheVariants.{Register, Aligned, General}
 use Rattle.classify.proofs.RouteLaws.{without_carried, register_first, routes_told}
 use Rattle.reg_access.specs.RegAccess.{built, with_zeros, pushed, push_numbers, route_of, RegisterExactly}
+use Rattle.reg_access.specs.declared.BadAddress.{BadAddress}
 use Rattle.reg_access.specs.declared.RegAccess.{RegAccess}
-use Rattle.reg_access.specs.declared.RegAccessAnswer.{RegAccessAnswer}
-use Rattle.reg_access.specs.declared.RegAccessAnswer.TheVariants.{Pushed, BadAddress}
 
 module _ (address : ℕ) (val old : List ℕ) (timestamp old_timestamp : ℕ) (is_read : Bool) where
   built_register : is_register_op (built address val old timestamp old_timestamp is_read) ≡ delta_in_range timestamp old_timestamp
@@ -55,18 +55,18 @@ module _ (address : ℕ) (val old : List ℕ) (timestamp old_timestamp : ℕ) (i
 
 module _ (r : List ℕ) (t : AccessRoute) (e : access_route r ≡ t) where
   abbrev refusal : RegAccess
-  refusal = record { answer = BadAddress; written = replicate ACCESS_WIDTH 0 }
+  refusal = record { answer = Err (record {}); written = replicate ACCESS_WIDTH 0 }
 
   pushed_by : pushed r
-      ≡ cond (address_fits (table_of (memw_route t)) (at r BASE_ADDRESS)) (record { answer = Pushed t; written = with_zeros (table_of (memw_route t)) r })
+      ≡ cond (address_fits (table_of (memw_route t)) (at r BASE_ADDRESS)) (record { answer = Ok t; written = with_zeros (table_of (memw_route t)) r })
       refusal
   unfolding pushed
   pushed_by =
       let same : classify r ≡ memw_route t = sym (without_carried (classify r) _) ∙ ap memw_route e in
-      λ i. cond (address_fits (table_of (same i)) (at r BASE_ADDRESS)) (record { answer = Pushed (e i); written = with_zeros (table_of (same i)) r }) refusal
+      λ i. cond (address_fits (table_of (same i)) (at r BASE_ADDRESS)) (record { answer = Ok (e i); written = with_zeros (table_of (same i)) r }) refusal
 
   pub pushed_fits : address_fits (table_of (memw_route t)) (at r BASE_ADDRESS) ≡ true
-      → ◌≡◌ {A = RegAccess} (record { answer = Pushed t; written = with_zeros (table_of (memw_route t)) r }) (pushed r)
+      → ◌≡◌ {A = RegAccess} (record { answer = Ok t; written = with_zeros (table_of (memw_route t)) r }) (pushed r)
   pushed_fits h = sym (pushed_by ∙ rw h)
 
   pub pushed_not : address_fits (table_of (memw_route t)) (at r BASE_ADDRESS) ≡ false → refusal ≡ pushed r
@@ -74,8 +74,8 @@ module _ (r : List ℕ) (t : AccessRoute) (e : access_route r ≡ t) where
 
 -- What tells it
 
-pub pushes_told : (a b : RegAccessAnswer) → push_numbers a ≡ push_numbers b → a ≡ b
-pushes_told (Pushed x) (Pushed y) e = ap Pushed (routes_told x y e)
-pushes_told (Pushed x) BadAddress e = absurd (omega (arith, ap (λ (n : AccessNumbers). n.answer.number) e))
-pushes_told BadAddress (Pushed y) e = absurd (omega (arith, ap (λ (n : AccessNumbers). n.answer.number) e))
-pushes_told BadAddress BadAddress e = refl
+pub pushes_told : (a b : Result AccessRoute BadAddress) → push_numbers a ≡ push_numbers b → a ≡ b
+pushes_told (Ok x) (Ok y) e = ap Ok (routes_told x y e)
+pushes_told (Ok x) (Err why) e = absurd (omega (arith, ap (λ (n : AccessNumbers). n.answer.number) e))
+pushes_told (Err why) (Ok y) e = absurd (omega (arith, ap (λ (n : AccessNumbers). n.answer.number) e))
+pushes_told (Err why) (Err same) e = refl

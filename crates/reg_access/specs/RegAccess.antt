@@ -1,7 +1,7 @@
 -- One access of a register, by its six inputs. Document 01: "Also `push_reg_access`: its six inputs (words of 32 bits) to a route and its
 -- record, in the answer itself; 11, place 0, is its one refusal." The route is that of the access record that the Rust would build.
 -- Assumes nothing.
-use Rattle.std.specs.Prelude.{◌≡◌, Bool, true, cond, List, ◌++◌, ℕ, ◌-◌, ◌%◌, eqb, replicate}
+use Rattle.std.specs.Prelude.{◌≡◌, Bool, true, cond, List, ◌++◌, ℕ, ◌-◌, ◌%◌, eqb, replicate, Result, Ok, Err}
 use Rattle.lists.specs.Lists.{at}
 use Rattle.words.specs.Words.{low_word, bit}
 use Rattle.access.specs.Access.{BASE_ADDRESS, ACCESS_WIDTH, access_record}
@@ -12,11 +12,11 @@ use Rattle.access.specs.declared.AccessTable.TheVariants as table
 use Rattle.classify.specs.Classify.{delta_in_range, delta_less_one, classify, carrying, access_route, table_for, access_numbers, access_refused}
 use Rattle.classify.specs.TableRecord.{register_record, address_fits}
 use Rattle.classify.specs.declared.AccessNumbers.{AccessNumbers}
+use Rattle.classify.specs.declared.AccessRoute.{AccessRoute}
 use Rattle.classify.specs.declared.MemwRoute.{MemwRoute}
 use Rattle.classify.specs.declared.MemwRoute.TheVariants.{Register, Aligned, General}
+use Rattle.reg_access.specs.declared.BadAddress.{BadAddress}
 use Rattle.reg_access.specs.declared.RegAccess.{RegAccess}
-use Rattle.reg_access.specs.declared.RegAccessAnswer.{RegAccessAnswer}
-use Rattle.reg_access.specs.declared.RegAccessAnswer.TheVariants.{Pushed, BadAddress}
 
 -- the access record of the six inputs, as `build_reg_fallback` builds it
 unfoldable pub built : ℕ → List ℕ → List ℕ → ℕ → ℕ → Bool → List ℕ
@@ -32,13 +32,13 @@ with_zeros table.Register r = register_record r ++ replicate (ACCESS_WIDTH - REG
 -- the answer for an access record: 11 where it goes to the register table and has no place there
 unfoldable pub pushed : List ℕ → RegAccess
 pushed r =
-    cond (address_fits (table_for r) (at r BASE_ADDRESS)) (record { answer = Pushed (access_route r); written = with_zeros (table_for r) r })
-    (record { answer = BadAddress; written = replicate ACCESS_WIDTH 0 })
+    cond (address_fits (table_for r) (at r BASE_ADDRESS)) (record { answer = Ok (access_route r); written = with_zeros (table_for r) r })
+    (record { answer = Err (record {}); written = replicate ACCESS_WIDTH 0 })
 
 -- document 01's number, place and value of each case, and the number that its route carries
-abbrev pub push_numbers : RegAccessAnswer → AccessNumbers
-push_numbers (Pushed route) = access_numbers route
-push_numbers BadAddress = access_refused 11
+abbrev pub push_numbers : Result AccessRoute BadAddress → AccessNumbers
+push_numbers (Ok route) = access_numbers route
+push_numbers (Err why) = access_refused 11
 
 -- The route by the inputs alone, without the record: no value decides it
 
@@ -61,4 +61,4 @@ RouteByInputs =
 
 -- the numbers of an answer leave nothing of it free: `route_by_inputs_holds` too
 abbrev pub PushTold : Type 0
-PushTold = (a b : RegAccessAnswer) → push_numbers a ≡ push_numbers b → a ≡ b
+PushTold = (a b : Result AccessRoute BadAddress) → push_numbers a ≡ push_numbers b → a ≡ b

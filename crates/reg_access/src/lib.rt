@@ -3,7 +3,7 @@
 #![tactic(auto)]
 
 ghost use Rattle.std.specs.Prelude.{◌≡◌, ◌++◌, ◌-◌, replicate};
-ghost use Rattle.words.specs.Words.{bit};
+ghost use Rattle.answer.specs.Numbers.{refused};
 ghost use Rattle.access.specs.Access.{ACCESS_WIDTH, access_record};
 ghost use Rattle.access.specs.RegisterAccess.{register_access};
 ghost use Rattle.access.specs.Tables.{REGISTER_WIDTH};
@@ -12,21 +12,26 @@ ghost use Rattle.classify.specs.TableRecord.{register_record};
 ghost use Rattle.reg_access.specs.RegAccess.{built, route_of, with_zeros, pushed, push_numbers};
 
 use access::{AccessTable, register_access};
-use classify::route::{address_fits, delta_less_one, reg_ts_delta_in_range, table_of};
-use classify::{AccessNumbers, AccessRoute, access_numbers, access_refused};
-use words::bit;
+use answer::{Answer, refuse};
+use classify::AccessRoute;
+use classify::route::{address_fits, delta_less_one, reg_ts_delta_in_range};
 
-// The route, or document 01's refusal 11.
+// Document 01's refusal 11: the route leads to the register table, where the address has no place.
 #[derive(Clone, Copy)]
-pub enum RegAccessAnswer {
-    Pushed(AccessRoute),
-    BadAddress,
+pub struct BadAddress;
+
+impl From<BadAddress> for Answer {
+    ghost from_gives = { λ _ a. a ≡ refused 11 0 };
+
+    fn from(_why: BadAddress) -> Answer {
+        refuse(11, 0)
+    }
 }
 
-// The answer, and the record as the route's list has it: 8 numbers and zeros for the register table, else 29; zeros if refused.
+// The route, and the record as the route's list has it: 8 numbers and zeros for the register table, else 29; zeros if refused.
 #[derive(Clone, Copy)]
 pub struct RegAccess {
-    pub answer: RegAccessAnswer,
+    pub answer: Result<AccessRoute, BadAddress>,
     pub written: [u64; 29],
 }
 
@@ -44,27 +49,17 @@ pub fn push_reg_access(
     ensures written { result.written ≡ (pushed (built reg_addr val old timestamp old_timestamp is_read)).written }
 {
     let route = route_of(reg_addr, timestamp, old_timestamp);
-    let t = table_of(route);
+    let t = AccessTable::from(route);
     if address_fits(t, reg_addr) {
         let record = written(t, reg_addr, val, old, timestamp, old_timestamp, is_read);
         return RegAccess {
-            answer: RegAccessAnswer::Pushed(route),
+            answer: Ok(route),
             written: record,
         };
     }
     RegAccess {
-        answer: RegAccessAnswer::BadAddress,
+        answer: Err(BadAddress),
         written: [0u64; 29],
-    }
-}
-
-// Document 01's number, place and value of an answer, and the number that its route carries.
-pub fn numbers(a: RegAccessAnswer) -> AccessNumbers
-    ensures { result ≡ push_numbers a }
-{
-    match a {
-        RegAccessAnswer::Pushed(route) => access_numbers(route),
-        RegAccessAnswer::BadAddress => access_refused(11),
     }
 }
 
@@ -85,6 +80,7 @@ fn route_of(reg_addr: u64, timestamp: u64, old_timestamp: u64) -> AccessRoute
 }
 
 // The record in the table's list.
+#[tactic(auto, unfolding(crate::specs::RegAccess::built))]
 fn written(
     t: AccessTable,
     reg_addr: u64,
@@ -96,12 +92,13 @@ fn written(
 ) -> [u64; 29]
     ensures { result ≡ with_zeros t (built reg_addr val old timestamp old_timestamp is_read) }
 {
-    let v = [val[0] as u64, val[1] as u64];
-    let o = [old[0] as u64, old[1] as u64];
-    let read = bit(is_read);
+    let v = [u64::from(val[0]), u64::from(val[1])];
+    let o = [u64::from(old[0]), u64::from(old[1])];
+    let read = u64::from(is_read);
     match t {
-        AccessTable::General => register_access(reg_addr, v, o, timestamp, old_timestamp, read),
-        AccessTable::Aligned => register_access(reg_addr, v, o, timestamp, old_timestamp, read),
+        AccessTable::General | AccessTable::Aligned => {
+            register_access(reg_addr, v, o, timestamp, old_timestamp, read)
+        }
         AccessTable::Register => register_row(reg_addr, v, o, timestamp, old_timestamp, read),
     }
 }

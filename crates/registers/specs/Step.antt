@@ -2,7 +2,7 @@
 -- index register at 508, stack top an input. Its four access records are in the answer itself, all zero if refused." and "The Rust
 -- stamps registers before it errs; here the state returns unchanged." Values come from the call, never from the registers.
 -- Assumes nothing.
-use Rattle.std.specs.Prelude.{ℕ, ◌+◌, ◌-◌, ◌*◌, ◌^◌, cond, not, List, ◌++◌, eqb, ltb, set, replicate}
+use Rattle.std.specs.Prelude.{ℕ, ◌+◌, ◌-◌, ◌*◌, ◌^◌, cond, not, List, ◌++◌, eqb, ltb, set, replicate, Result, Ok, Err}
 use Rattle.answer.specs.Numbers.{accepted, refused}
 use Rattle.answer.specs.declared.Answer.{Answer}
 use Rattle.lists.specs.Lists.{at}
@@ -13,8 +13,8 @@ use Rattle.access.specs.Access.{ACCESS_WIDTH, access_record}
 use Rattle.access.specs.RegisterAccess.{register_access}
 use Rattle.registers.specs.declared.RegisterState.{RegisterState}
 use Rattle.registers.specs.declared.RegisterStep.{RegisterStep}
-use Rattle.registers.specs.declared.StepAnswer.{StepAnswer}
-use Rattle.registers.specs.declared.StepAnswer.TheVariants.{Stepped, NotCommitIndex, PastIndex, NotStdout}
+use Rattle.registers.specs.declared.StepRefusal.{StepRefusal}
+use Rattle.registers.specs.declared.StepRefusal.TheVariants.{NotCommitIndex, PastIndex, NotStdout}
 
 -- The state
 
@@ -56,12 +56,15 @@ wrote_index value stamp s =
 
 -- The answer
 
--- document 01's number, place and value of each case
-abbrev pub step_numbers : StepAnswer → Answer
-step_numbers (Stepped records) = accepted records
-step_numbers NotCommitIndex = refused 4 0
-step_numbers PastIndex = refused 5 0
-step_numbers NotStdout = refused 6 0
+-- document 01's number and place of each refusal, and with the value those of an answer: the number of accesses, or a refusal
+abbrev pub step_refusal_numbers : StepRefusal → Answer
+step_refusal_numbers NotCommitIndex = refused 4 0
+step_refusal_numbers PastIndex = refused 5 0
+step_refusal_numbers NotStdout = refused 6 0
+
+abbrev pub step_numbers : Result ℕ StepRefusal → Answer
+step_numbers (Ok records) = accepted records
+step_numbers (Err why) = step_refusal_numbers why
 
 -- What a step does
 
@@ -77,7 +80,7 @@ read_back r value stamp s = accessed (2 * r) value value stamp (at s.stamps r)
 abbrev pub copied : ℕ → ℕ → ℕ → ℕ → RegisterState → RegisterStep
 copied stamp src dst count s =
     record {
-      answer = Stepped 3;
+      answer = Ok 3;
       state = wrote 10 dst stamp (wrote 12 count stamp (wrote 11 src stamp s));
       records =
           read_back 11 src stamp s ++ (read_back 12 count stamp s ++ (read_back 10 dst stamp s ++ replicate ACCESS_WIDTH 0));
@@ -87,7 +90,7 @@ copied stamp src dst count s =
 abbrev pub committed : ℕ → ℕ → ℕ → ℕ → RegisterState → RegisterStep
 committed stamp src dst count s =
     record {
-      answer = Stepped 4;
+      answer = Ok 4;
       state = wrote 10 count stamp (wrote_index (dst + count) stamp (wrote 12 count stamp (wrote 11 src stamp s)));
       records =
           read_back 11 src stamp s
@@ -96,8 +99,8 @@ committed stamp src dst count s =
     }
 
 -- a step that is refused: the state as it came, and four zero records
-abbrev pub step_refused : StepAnswer → RegisterState → RegisterStep
-step_refused answer s = record { answer = answer; state = s; records = replicate (4 * ACCESS_WIDTH) 0 }
+abbrev pub step_refused : StepRefusal → RegisterState → RegisterStep
+step_refused why s = record { answer = Err why; state = s; records = replicate (4 * ACCESS_WIDTH) 0 }
 
 -- The whole answer: refusals 4, 5 and 6, in this order and of a Write only. Sums are plain.
 unfoldable pub register_step : Functionality → ℕ → ℕ → ℕ → ℕ → RegisterState → RegisterStep

@@ -2,9 +2,8 @@
 // has an answer. Assumes nothing.
 #![tactic(auto)]
 
-ghost use Rattle.std.specs.Prelude.{◌≡◌, ◌++◌, ◌+◌, ◌-◌, ◌*◌, ◌^◌, ◌≤◌, ◌<◌, length};
-ghost use Rattle.access.specs.Access.{ACCESS_WIDTH};
-ghost use Rattle.registers.specs.Step.{new_state, wrote, step_numbers, read_back, committed, step_refused, register_step};
+ghost use Rattle.std.specs.Prelude.{◌≡◌, ◌++◌, ◌+◌, ◌-◌, ◌*◌, ◌^◌, ◌≤◌, ◌<◌};
+ghost use Rattle.registers.specs.Step.{new_state, wrote, step_refusal_numbers, step_numbers, read_back, committed, step_refused, register_step};
 
 use access::{ACCESS_WIDTH, register_access};
 use answer::Answer;
@@ -23,19 +22,32 @@ pub struct RegisterState {
     pub pc_stamp: u64,
 }
 
-// One case for each answer of a register step: the number of its accesses, or document 01's refusals 4, 5 and 6.
+// Document 01's refusals 4, 5 and 6 of a register step.
 #[derive(Clone, Copy)]
-pub enum StepAnswer {
-    Stepped { records: u64 },
+pub enum StepRefusal {
     NotCommitIndex,
     PastIndex,
     NotStdout,
 }
 
-// A register step: the answer, the state behind it, and four access records. A step that is refused leaves the state as it was.
+// Document 01's number and place of a refusal.
+impl From<StepRefusal> for Answer {
+    ghost from_gives = { λ why a. a ≡ step_refusal_numbers why };
+
+    fn from(why: StepRefusal) -> Answer {
+        match why {
+            StepRefusal::NotCommitIndex => answer::refuse(4, 0),
+            StepRefusal::PastIndex => answer::refuse(5, 0),
+            StepRefusal::NotStdout => answer::refuse(6, 0),
+        }
+    }
+}
+
+// A register step: the number of its accesses, the state behind it, and four access records. A step that is refused leaves the state
+// as it was.
 #[derive(Clone, Copy)]
 pub struct RegisterStep {
-    pub answer: StepAnswer,
+    pub answer: Result<u64, StepRefusal>,
     pub state: RegisterState,
     pub records: [u64; 116],
 }
@@ -47,7 +59,7 @@ pub fn new_register_state(entry_point: u64, stack_top: u64) -> RegisterState
     let mut values = [0u64; 32];
     values[2] = stack_top;
     RegisterState {
-        values: values,
+        values,
         stamps: [1u64; 32],
         index: 0,
         index_stamp: 1,
@@ -58,6 +70,7 @@ pub fn new_register_state(entry_point: u64, stack_top: u64) -> RegisterState
 
 // The register accesses of one call, all at its timestamp: x11 holds src, x12 count, and x10 dst; for a write the commit index holds dst,
 // and x10 the file descriptor, which is 1, and gets the count. x11 is taken to hold src and is not compared with it.
+#[tactic(auto, unfolding(crate::specs::Step::register_step))]
 pub fn collect_copy_register_ops(
     kind: Functionality,
     timestamp: u64,
@@ -71,25 +84,13 @@ pub fn collect_copy_register_ops(
     ensures records { result.records ≡ (register_step kind timestamp src dst count state).records }
 {
     match kind {
-        Functionality::Copy => step_memory(timestamp, src, dst, count, state),
-        Functionality::Set => step_memory(timestamp, src, dst, count, state),
+        Functionality::Copy | Functionality::Set => step_memory(timestamp, src, dst, count, state),
         Functionality::Write => step_write(timestamp, src, dst, count, state),
     }
 }
 
-// Document 01's number, place and value of an answer.
-pub fn numbers(a: StepAnswer) -> Answer
-    ensures { result ≡ step_numbers a }
-{
-    match a {
-        StepAnswer::Stepped { records } => answer::accept(records),
-        StepAnswer::NotCommitIndex => answer::refuse(4, 0),
-        StepAnswer::PastIndex => answer::refuse(5, 0),
-        StepAnswer::NotStdout => answer::refuse(6, 0),
-    }
-}
-
 // The step of a Copy or a Set, which is never refused.
+#[tactic(auto, unfolding(crate::specs::Step::register_step))]
 fn step_memory(timestamp: u64, src: u64, dst: u64, count: u64, state: RegisterState) -> RegisterStep
     ensures { result ≡ register_step Functionality.Copy timestamp src dst count state }
 {
@@ -104,26 +105,27 @@ fn step_memory(timestamp: u64, src: u64, dst: u64, count: u64, state: RegisterSt
         wrote(12, count, timestamp, wrote(11, src, timestamp, state)),
     );
     RegisterStep {
-        answer: StepAnswer::Stepped { records: 3 },
+        answer: Ok(3),
         state: after,
-        records: records,
+        records,
     }
 }
 
 // The step of a Write: 4, 5, 6, else what it does.
+#[tactic(auto, unfolding(crate::specs::Step::register_step))]
 fn step_write(timestamp: u64, src: u64, dst: u64, count: u64, state: RegisterState) -> RegisterStep
     ensures { result ≡ register_step Functionality.Write timestamp src dst count state }
 {
-    let index = state.index as u64;
+    let index = u64::from(state.index);
     if dst != index {
-        return refused(StepAnswer::NotCommitIndex, state);
+        return refused(StepRefusal::NotCommitIndex, state);
     }
     // dst is a word here: the difference says of the count what document 01 says of the plain sum.
     if 4294967295 - dst < count {
-        return refused(StepAnswer::PastIndex, state);
+        return refused(StepRefusal::PastIndex, state);
     }
     if state.values[10] != 1 {
-        return refused(StepAnswer::NotStdout, state);
+        return refused(StepRefusal::NotStdout, state);
     }
     commit(timestamp, src, dst, count, state)
 }
@@ -145,19 +147,19 @@ fn commit(timestamp: u64, src: u64, dst: u64, count: u64, state: RegisterState) 
     after.index_stamp = timestamp;
     let last = wrote(10, count, timestamp, after);
     RegisterStep {
-        answer: StepAnswer::Stepped { records: 4 },
+        answer: Ok(4),
         state: last,
-        records: records,
+        records,
     }
 }
 
 // A step that is refused: the state as it came, and no access.
-fn refused(answer: StepAnswer, state: RegisterState) -> RegisterStep
-    ensures { result ≡ step_refused answer state }
+fn refused(why: StepRefusal, state: RegisterState) -> RegisterStep
+    ensures { result ≡ step_refused why state }
 {
     RegisterStep {
-        answer: answer,
-        state: state,
+        answer: Err(why),
+        state,
         records: [0u64; 116],
     }
 }
@@ -190,21 +192,14 @@ fn wrote(r: usize, value: u64, timestamp: u64, state: RegisterState) -> Register
 }
 
 // Four records, one behind the other.
+#[tactic(auto, using(crate::proofs::FourRecords::four_stored))]
 fn four_records(a: [u64; 29], b: [u64; 29], c: [u64; 29], d: [u64; 29]) -> [u64; 116]
     ensures { result ≡ a ++ (b ++ (c ++ d)) }
 {
     let mut records = [0u64; 116];
-    put_four(&mut records, &a, &b, &c, &d);
+    put_at(&mut records, 0, &a);
+    put_at(&mut records, ACCESS_WIDTH, &b);
+    put_at(&mut records, 2 * ACCESS_WIDTH, &c);
+    put_at(&mut records, 3 * ACCESS_WIDTH, &d);
     records
-}
-
-fn put_four(records: &mut [u64], a: &[u64], b: &[u64], c: &[u64], d: &[u64])
-    requires { (length records.old ≡ 4 * ACCESS_WIDTH) × (length a.now ≡ ACCESS_WIDTH) × (length b.now ≡ ACCESS_WIDTH)
-        × (length c.now ≡ ACCESS_WIDTH) × (length d.now ≡ ACCESS_WIDTH) }
-    ensures { records.new ≡ a.now ++ (b.now ++ (c.now ++ d.now)) }
-{
-    put_at(records, 0, a);
-    put_at(records, ACCESS_WIDTH, b);
-    put_at(records, 2 * ACCESS_WIDTH, c);
-    put_at(records, 3 * ACCESS_WIDTH, d);
 }

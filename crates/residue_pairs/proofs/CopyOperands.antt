@@ -6,6 +6,7 @@ use mathlib.Core.List.{List, [], ◌∷◌}
 use Prim.Native.Nat.{ℕ, ◌+◌, ◌<◌}
 use native.Mathlib.Omega.{arith}
 use lib.IntN.{pos}
+use Rattle.std.specs.Prelude.{Ok}
 use Rattle.lists.specs.Lists.{at}
 use Rattle.field.specs.Field.{p, bit_p, mul_p, sub_p}
 use Rattle.field.specs.Rows.{Elements}
@@ -19,8 +20,6 @@ use Rattle.operands.specs.Operands.{low_value, high_value, sum_p, every, term_in
 use Rattle.operands.specs.Constructors.{cells, dword, linear, constant, from_dword_hl}
 use Rattle.operands.specs.Pairs.{carry_lo, carry_hi, gated, residue_lo, residue_hi}
 use Rattle.operands.specs.declared.AddOperand.{AddOperand}
-use Rattle.operands.specs.declared.CarryAnswer.TheVariants.{Carry}
-use Rattle.operands.specs.declared.PairAnswer.TheVariants.{Residues}
 use Rattle.operands.proofs.Pairs.{carry_lo_lem, carry_hi_lem}
 use Rattle.operands.proofs.Answers.{pair_accepted, carry_accepted}
 use Rattle.operands.proofs.Constructors.{dword_low, dword_high, constant_low, constant_high}
@@ -43,7 +42,7 @@ module _ (gap : ℕ) (row : List ℕ) (e : Elements COLUMNS row)
   plain i f g =
       let low = sym (f ∙ ap bit_p c.low) in
       let high = sym (g ∙ ap bit_p c.high) in
-      record { pair = pair_accepted lhs rhs sum row e o [] refl ∙ (λ j. Residues (low j) (high j)) }
+      record { pair = pair_accepted lhs rhs sum row e o [] refl ∙ (λ j. Ok (record { low = low j; high = high j })) }
 
   conditional : (i k : ℕ) → conditions_in_row (k ∷ []) ≡ true → residue gap row i ≡ mul_p (at row k) (bit_p c0)
       → residue gap row (i + 1) ≡ mul_p (at row k) (bit_p c1)
@@ -53,11 +52,11 @@ module _ (gap : ℕ) (row : List ℕ) (e : Elements COLUMNS row)
       let one = sym (zero_add_p (at row k) (e.each k)) in
       let low = sym (f ∙ (λ n. mul_p (one n) (bit_p (c.low n)))) in
       let high = sym (g ∙ (λ n. mul_p (one n) (bit_p (c.high n)))) in
-      record { pair = pair_accepted lhs rhs sum row e o (k ∷ []) h ∙ (λ j. Residues (low j) (high j)) }
+      record { pair = pair_accepted lhs rhs sum row e o (k ∷ []) h ∙ (λ j. Ok (record { low = low j; high = high j })) }
 
   -- a gate times the high carry
   gate_times : (i gate : ℕ) → residue gap row i ≡ mul_p gate c1 → Gated gap row i gate lhs rhs sum
-  gate_times i gate f = record { carry = c1; answer = carry_accepted lhs rhs sum row e o ∙ ap Carry (sym c.high); product = f }
+  gate_times i gate f = record { carry = c1; answer = carry_accepted lhs rhs sum row e o ∙ ap Ok (sym c.high); product = f }
 
 -- The carries of the five sums, from the values of their operands
 
@@ -119,5 +118,5 @@ residues_are_pairs gap h row e =
       gap_no_wrap_lem = gate_times gap row e (dword SRC) (constant (pos gap)) (dword DST) refl gap_sum 39 (at row IS_SET) refl;
       count_borrow =
           carry_accepted (from_dword_hl COUNT_DECR) step_operand (dword COUNT) row e refl
-          ∙ ap Carry (sym count.high ∙ sym (carried e));
+          ∙ ap Ok (sym count.high ∙ sym (carried e));
     }

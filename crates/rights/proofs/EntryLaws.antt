@@ -16,7 +16,8 @@ use Rattle.call.specs.Entries.{LAST_PARTY}
 use Rattle.call.specs.Entries.{ENTRY_WIDTH, entry_limits, good_entry}
 use Rattle.rights.specs.Entries.{entry_at, end_of, entry_count, whole_entries, MOST_ENTRIES, too_many, past_window, bad_entries, first_bad_entry, has_bad_entry}
 use Rattle.rights.specs.Inner.{claim_answer, EndsFit}
-use Rattle.rights.specs.declared.ClaimAnswer.TheVariants.{Good, BadEntries, BadField}
+use Rattle.rights.specs.declared.ClaimRefusal.TheVariants.{BadEntries, BadField}
+use Rattle.std.specs.Prelude.{Ok, Err}
 
 -- An entry past the window
 
@@ -65,25 +66,25 @@ ends_fit entries cells h e k l = omega (arith, ends_within entries cells e k l)
 -- The answer, case by case
 
 module _ (party : ℕ) (entries : List ℕ) (cells : ℕ) where
-  pub answer_many : MOST_ENTRIES < entry_count entries → BadEntries ≡ claim_answer party entries cells
+  pub answer_many : MOST_ENTRIES < entry_count entries → Err BadEntries ≡ claim_answer party entries cells
   unfolding claim_answer
   answer_many h = let many : too_many entries ≡ true = lt-ltb MOST_ENTRIES (entry_count entries) h in rw many
 
   -- there are few enough
   module _ (few : entry_count entries ≤ MOST_ENTRIES) where
-    pub answer_past : past_window entries cells ≡ true → BadEntries ≡ claim_answer party entries cells
+    pub answer_past : past_window entries cells ≡ true → Err BadEntries ≡ claim_answer party entries cells
     unfolding claim_answer
     answer_past e = rw (le-ltb MOST_ENTRIES (entry_count entries) few, e)
 
     -- and each ends in the window
     module _ (inside : past_window entries cells ≡ false) where
-      pub answer_party : LAST_PARTY < party → BadField 0 ≡ claim_answer party entries cells
+      pub answer_party : LAST_PARTY < party → Err (BadField 0) ≡ claim_answer party entries cells
       unfolding claim_answer
       answer_party h = rw (le-ltb MOST_ENTRIES (entry_count entries) few, inside, lt-ltb LAST_PARTY party h)
 
       -- and the party is one
       module _ (one : party ≤ LAST_PARTY) where
-        pub answer_entry : first_bad_entry entries < entry_count entries → BadField (first_bad_entry entries) ≡ claim_answer party entries cells
+        pub answer_entry : first_bad_entry entries < entry_count entries → Err (BadField (first_bad_entry entries)) ≡ claim_answer party entries cells
         unfolding claim_answer
         answer_entry h =
             rw (
@@ -93,7 +94,7 @@ module _ (party : ℕ) (entries : List ℕ) (cells : ℕ) where
               lt-ltb (first_bad_entry entries) (entry_count entries) h,
             )
 
-        pub answer_good : entry_count entries ≤ first_bad_entry entries → Good ≡ claim_answer party entries cells
+        pub answer_good : entry_count entries ≤ first_bad_entry entries → Ok tt ≡ claim_answer party entries cells
         unfolding claim_answer
         answer_good h =
             rw (
@@ -141,5 +142,5 @@ module _ (cells : ℕ) where
   pub whole_none_bad : cells < 2 ^ 64 → has_bad_entry (0 ∷ 0 ∷ cells ∷ 1 ∷ 1 ∷ []) ≡ false
   whole_none_bad w = le-ltb (first_bad_entry whole) (entry_count whole) (omega (arith, whole_first_bad w))
 
-  pub whole_entry_good : cells < 2 ^ 64 → claim_answer 0 (0 ∷ 0 ∷ cells ∷ 1 ∷ 1 ∷ []) cells ≡ Good
+  pub whole_entry_good : cells < 2 ^ 64 → claim_answer 0 (0 ∷ 0 ∷ cells ∷ 1 ∷ 1 ∷ []) cells ≡ Ok tt
   whole_entry_good w = sym (answer_good 0 whole cells (omega arith) whole_inside (omega arith) (omega (arith, whole_first_bad w)))

@@ -1,10 +1,10 @@
 -- Entries computed over the definitions, so that nothing in the laws is empty. `rights_laws_hold` in theorems carries them. Assumes nothing.
-use Rattle.std.specs.Prelude.{◌≡◌, true, false, List, [], ◌∷◌, ◌++◌, ℕ, ◌-◌, ◌^◌, replicate}
+use Rattle.std.specs.Prelude.{◌≡◌, true, false, List, [], ◌∷◌, ◌++◌, ℕ, ◌-◌, ◌^◌, replicate, Ok, Err}
 use Rattle.call.specs.Calls.{Call}
 use Rattle.rights.specs.Entries.{MAY_READ, MAY_WRITE}
 use Rattle.rights.specs.Rights.{covered, lacks_right}
 use Rattle.rights.specs.Inner.{claim_answer}
-use Rattle.rights.specs.declared.ClaimAnswer.TheVariants.{Good, BadEntries, BadField}
+use Rattle.rights.specs.declared.ClaimRefusal.TheVariants.{BadEntries, BadField}
 
 -- an entry of a party over some bytes
 abbrev pub entry : (party start length read write : ℕ) → List ℕ
@@ -31,15 +31,15 @@ pub record Instances : Type 0 where
   pub write : lacks_right (call_of 2 5) 3 shared ≡ false
   pub write_source : lacks_right (call_of 2 11) 3 shared ≡ true
   -- accepted, and what is refused: 16 entries and one number, an entry one past the window, a sum that would wrap; 21 before 10
-  pub good : claim_answer 3 shared 10 ≡ Good
-  pub seventeen : claim_answer 3 (replicate 81 0) 10 ≡ BadEntries
-  pub sixteen : claim_answer 3 (replicate 80 0) 10 ≡ Good
-  pub past : claim_answer 3 shared 9 ≡ BadEntries
-  pub wrapped : claim_answer 3 (entry 3 (2 ^ 64 - 1) 2 1 1) 10 ≡ BadEntries
-  pub first_21 : claim_answer 16 (entry 99 0 11 2 2) 10 ≡ BadEntries
+  pub good : claim_answer 3 shared 10 ≡ Ok tt
+  pub seventeen : claim_answer 3 (replicate 81 0) 10 ≡ Err BadEntries
+  pub sixteen : claim_answer 3 (replicate 80 0) 10 ≡ Ok tt
+  pub past : claim_answer 3 shared 9 ≡ Err BadEntries
+  pub wrapped : claim_answer 3 (entry 3 (2 ^ 64 - 1) 2 1 1) 10 ≡ Err BadEntries
+  pub first_21 : claim_answer 16 (entry 99 0 11 2 2) 10 ≡ Err BadEntries
   -- 10: the own party before an entry; a party, a right, a cut entry, which is not judged by its end
-  pub own_party : claim_answer 16 (entry 16 0 1 1 1) 10 ≡ BadField 0
-  pub entry_party : claim_answer 3 (entry 3 0 1 1 1 ++ entry 16 0 1 1 1) 10 ≡ BadField 1
-  pub read_two : claim_answer 3 (entry 3 0 1 1 1 ++ entry 4 0 1 2 1) 10 ≡ BadField 1
-  pub write_two : claim_answer 3 (entry 3 0 1 1 1 ++ entry 4 0 1 1 2) 10 ≡ BadField 1
-  pub cut : claim_answer 3 (entry 3 0 1 1 1 ++ (3 ∷ 0 ∷ 99 ∷ 1 ∷ [])) 10 ≡ BadField 1
+  pub own_party : claim_answer 16 (entry 16 0 1 1 1) 10 ≡ Err (BadField 0)
+  pub entry_party : claim_answer 3 (entry 3 0 1 1 1 ++ entry 16 0 1 1 1) 10 ≡ Err (BadField 1)
+  pub read_two : claim_answer 3 (entry 3 0 1 1 1 ++ entry 4 0 1 2 1) 10 ≡ Err (BadField 1)
+  pub write_two : claim_answer 3 (entry 3 0 1 1 1 ++ entry 4 0 1 1 2) 10 ≡ Err (BadField 1)
+  pub cut : claim_answer 3 (entry 3 0 1 1 1 ++ (3 ∷ 0 ∷ 99 ∷ 1 ∷ [])) 10 ≡ Err (BadField 1)

@@ -35,14 +35,12 @@ fn giver(entries: &[u64], n: usize, party: u64, right: usize, x: u64) -> usize
     requires { n ≡ whole_entries entries.now }
     ensures { result ≡ giver entries.now party right x }
 {
-    let mut k = 0;
-    while k < n {
+    for k in 0..n {
         if gives(record_at(entries, ENTRY_WIDTH, k), party, right, x) {
             return k;
         }
-        k += 1;
     }
-    k
+    n
 }
 
 // Where an entry ends: a plain sum.

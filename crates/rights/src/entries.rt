@@ -4,7 +4,7 @@ ghost use Rattle.std.specs.Prelude.{◌≡◌};
 ghost use Rattle.rights.specs.Entries.{entry_count, first_bad_entry, past_window};
 ghost use Rattle.rights.specs.Inner.{claim_answer};
 
-use crate::ClaimAnswer;
+use crate::ClaimRefusal;
 use call::{ENTRY_WIDTH, LAST_PARTY, good_entry};
 use lists::slices::number;
 use records::tables::{record_at, record_count};
@@ -29,13 +29,11 @@ fn past_window(entries: &[u64], cells: u64) -> bool
     ensures { result ≡ past_window entries.now cells }
 {
     let n = entries.len() / ENTRY_WIDTH;
-    let mut k = 0;
-    while k < n {
+    for k in 0..n {
         let entry = record_at(entries, ENTRY_WIDTH, k);
         if past(cells, number(entry, START), number(entry, LENGTH)) {
             return true;
         }
-        k += 1;
     }
     false
 }
@@ -45,33 +43,31 @@ fn first_bad_entry(entries: &[u64], n: usize) -> usize
     requires { n ≡ entry_count entries.now }
     ensures { result ≡ first_bad_entry entries.now }
 {
-    let mut k = 0;
-    while k < n {
+    for k in 0..n {
         if !good_entry(record_at(entries, ENTRY_WIDTH, k)) {
             return k;
         }
-        k += 1;
     }
-    k
+    n
 }
 
 // The answer for a party and the entries over a window of so many cells: 21, then 10.
-pub fn claim_answer(party: u64, entries: &[u64], cells: u64) -> ClaimAnswer
+pub fn claim_answer(party: u64, entries: &[u64], cells: u64) -> Result<(), ClaimRefusal>
     ensures { result ≡ claim_answer party entries.now cells }
 {
     let n = record_count(entries, ENTRY_WIDTH);
     if MOST_ENTRIES < n {
-        return ClaimAnswer::BadEntries;
+        return Err(ClaimRefusal::BadEntries);
     }
     if past_window(entries, cells) {
-        return ClaimAnswer::BadEntries;
+        return Err(ClaimRefusal::BadEntries);
     }
     if LAST_PARTY < party {
-        return ClaimAnswer::BadField { place: 0 };
+        return Err(ClaimRefusal::BadField { place: 0 });
     }
     let bad = first_bad_entry(entries, n);
     if bad < n {
-        return ClaimAnswer::BadField { place: bad };
+        return Err(ClaimRefusal::BadField { place: bad });
     }
-    ClaimAnswer::Good
+    Ok(())
 }

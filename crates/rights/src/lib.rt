@@ -5,11 +5,9 @@
 pub mod cover;
 pub mod entries;
 
-// What is wrong with a call's party and the entries, if anything is.
+// What is wrong with a call's party and the entries.
 #[derive(Clone, Copy)]
-pub enum ClaimAnswer {
-    // nothing: the entries are accepted
-    Good,
+pub enum ClaimRefusal {
     // 21: more than 16 entries, or one past the window
     BadEntries,
     // 10: the call's own party is none, at place 0, or an entry is cut or has a field outside its values

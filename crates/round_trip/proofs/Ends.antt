@@ -9,63 +9,70 @@ use native.Mathlib.Omega.{arith}
 use borrow.Author.Tests.{ltb-false}
 use lib.Dec.{ltb, eqb}
 use lib.ListN.{length, take}
+use Rattle.std.specs.Prelude.{Ok, Err}
 use lib.Seq.{take_at}
 use Rattle.lists.specs.Lists.{store}
 use Rattle.lists.proofs.Store.{length_store, store_eq}
 use Rattle.records.specs.Records.{LIMIT, record_count}
 use Rattle.records.specs.RowCount.{row_count}
-use Rattle.records.specs.declared.TableAnswer.{TableAnswer}
-use Rattle.records.specs.declared.TableAnswer.TheVariants.{Made}
+use Rattle.records.specs.Table.{TableAnswer}
 use Rattle.call.specs.Ops.{OP_WIDTH}
 use Rattle.call.specs.Flat.{CALL_WIDTH, HANDED_WIDTH}
 use Rattle.expansion.specs.Tries.{Lent}
 use Rattle.copy_row.specs.Columns.{COLUMNS}
 use Rattle.copy_row.specs.Trace.{copy_answer, copy_after}
 use Rattle.copy_row.proofs.CopyTable.{made_facts, after_length}
-use Rattle.read_back.specs.ReadBack.{read_back_answer, ops_after, calls_after}
-use Rattle.read_back.specs.declared.ReadBackAnswer.{ReadBackAnswer}
+use Rattle.read_back.specs.ReadBack.{ReadBackAnswer, read_back_answer, ops_after, calls_after}
 use Rattle.calls_in_turn.specs.InTurn.{calls_in, all_expanded}
 use Rattle.calls_in_turn.proofs.Counted.{records_fit}
 use Rattle.round_trip.specs.Trip.{TripLent, Trip, setting_of, records_handed, table_made, written}
-use Rattle.round_trip.specs.Trip.{RoundTripNumbers, trip_numbers, round_trip_numbers, trip_run, trip_after, Ended}
+use Rattle.round_trip.specs.Trip.{RoundTripNumbers, trip_numbers, RoundTripAnswer, round_trip_numbers, trip_run, trip_after, Ended}
 use Rattle.round_trip.specs.Inner.{decided, foretold, Tabled}
 use Rattle.round_trip.specs.RoundTrip.{TypedTrip}
-use Rattle.round_trip.specs.declared.RoundTripAnswer.{RoundTripAnswer}
-use Rattle.round_trip.specs.declared.RoundTripAnswer.TheVariants.{Passed, TooManyRecords, NotWhole, BufferShort}
+use Rattle.round_trip.specs.declared.RoundTripped.{RoundTripped}
+use Rattle.round_trip.specs.declared.RoundTripRefusal.{RoundTripRefusal}
+use Rattle.round_trip.specs.declared.RoundTripRefusal.TheVariants.{TooManyRecords, NotWhole, BufferShort}
 use Rattle.round_trip.proofs.Whole.{handed_length, decided_of, foretold_of, made, foretold_is}
 
 -- `decide` and `foretell`
 
 module _ (n m room_table room_ops calls_room : ℕ) where
   -- what a pass has found out
-  pub record Found (rows ops calls : ℕ) : Type 0 where
+  pub record Found (found : RoundTripped) : Type 0 where
     pub few : n ≤ LIMIT
-    pub rows_are : rows ≡ row_count n
-    pub ops_are : ops ≡ n
-    pub calls_are : calls ≡ m
+    pub rows_are : found.rows ≡ row_count n
+    pub ops_are : found.ops ≡ n
     pub room : COLUMNS * row_count n ≤ room_table
 
-  pub decided_found : (rows ops calls : ℕ) → decided n m room_table room_ops calls_room ≡ Passed rows ops calls → Found rows ops calls
+  pub decided_found : (found : RoundTripped) → decided n m room_table room_ops calls_room ≡ Ok found → Found found
   unfolding decided
-  decided_found rows ops calls e = go _ _ (ltb room_ops (OP_WIDTH * n) || ltb calls_room (CALL_WIDTH * m)) refl refl e
+  decided_found found e = go _ _ (ltb room_ops (OP_WIDTH * n) || ltb calls_room (CALL_WIDTH * m)) refl refl e
     where
       go : (x y z : Bool) → ltb LIMIT n ≡ x → ltb room_table (COLUMNS * row_count n) ≡ y
-          → cond x TooManyRecords (cond y BufferShort (cond z BufferShort (Passed (row_count n) n m))) ≡ Passed rows ops calls
-          → Found rows ops calls
+          → cond x (Err TooManyRecords)
+          (cond y (Err BufferShort) (cond z (Err BufferShort) (Ok (record { rows = row_count n; ops = n; calls = m }))))
+          ≡ Ok found
+          → Found found
       go true y z p q e = let never : ◌≡◌ {A = ℕ} 0 1 = cc in absurd (omega arith)
       go false true z p q e = let never : ◌≡◌ {A = ℕ} 0 1 = cc in absurd (omega arith)
       go false false true p q e = let never : ◌≡◌ {A = ℕ} 0 1 = cc in absurd (omega arith)
       go false false false p q e =
-          record { few = ltb-false LIMIT n p; rows_are = cc; ops_are = cc; calls_are = cc; room = ltb-false room_table _ q }
+          let same : record { rows = row_count n; ops = n; calls = m } ≡ found = cc in
+          record {
+            few = ltb-false LIMIT n p;
+            rows_are = ap (λ (x : RoundTripped). x.rows) (sym same);
+            ops_are = ap (λ (x : RoundTripped). x.ops) (sym same);
+            room = ltb-false room_table _ q;
+          }
 
 -- a pass is one by the counts
-pub passed_counts : (t : Trip) (rows ops calls : ℕ) → foretold_of t ≡ Passed rows ops calls → decided_of t ≡ Passed rows ops calls
+pub passed_counts : (t : Trip) (found : RoundTripped) → foretold_of t ≡ Ok found → decided_of t ≡ Ok found
 unfolding foretold
-passed_counts t rows ops calls = go (ltb LIMIT (record_count HANDED_WIDTH t.calls)) (eqb (length t.calls % HANDED_WIDTH) 0)
+passed_counts t found = go (ltb LIMIT (record_count HANDED_WIDTH t.calls)) (eqb (length t.calls % HANDED_WIDTH) 0)
   where
     go : (many whole : Bool)
-        → cond many TooManyRecords (cond whole (decided_of t) (NotWhole (length t.calls / HANDED_WIDTH))) ≡ Passed rows ops calls
-        → decided_of t ≡ Passed rows ops calls
+        → cond many (Err TooManyRecords) (cond whole (decided_of t) (Err (NotWhole (length t.calls / HANDED_WIDTH)))) ≡ Ok found
+        → decided_of t ≡ Ok found
     go true whole e = let never : ◌≡◌ {A = ℕ} 0 1 = cc in absurd (omega arith)
     go false true e = e
     go false false e = let never : ◌≡◌ {A = ℕ} 0 1 = cc in absurd (omega arith)
@@ -104,7 +111,7 @@ module _ (t : Trip) (n rows : ℕ) (tabled : Tabled t n rows) where
           ∙ ap (λ (a : TableAnswer). copy_after (records_handed t) a t.lists.table) tabled.made
 
       pub table_kept : COLUMNS * rows ≤ length table
-      table_kept = omega (arith, table_room, ap length made_table, after_length (records_handed t) (Made rows) t.lists.table)
+      table_kept = omega (arith, table_room, ap length made_table, after_length (records_handed t) (Ok rows) t.lists.table)
 
       -- and of the table: the rows written
       lent_rows : take (COLUMNS * rows - 0) table ≡ written t rows
@@ -128,34 +135,32 @@ module _ (t : Trip) (typed : TypedTrip t) (a : RoundTripAnswer) (e : a ≡ foret
   numbers = ap round_trip_numbers e ∙ foretold_is t typed
 
   -- `run` may go on
-  pub may_run : (rows ops calls : ℕ) → a ≡ Passed rows ops calls → Tabled t ops rows
-  may_run rows ops calls q =
-      let f = decided_found _ _ _ _ _ rows ops calls (passed_counts t rows ops calls (sym e ∙ q)) in
+  pub may_run : (found : RoundTripped) → a ≡ Ok found → Tabled t found.ops found.rows
+  may_run found q =
+      let f = decided_found _ _ _ _ _ found (passed_counts t found (sym e ∙ q)) in
       record {
-        made = made t typed f.few f.room ∙ ap Made (sym f.rows_are);
+        made = made t typed f.few f.room ∙ ap Ok (sym f.rows_are);
         records = handed_length t ∙ ap (λ n. OP_WIDTH * n) (sym f.ops_are);
       }
 
-  pub ended_through : (rows ops calls : ℕ) → a ≡ Passed rows ops calls → (after : TripLent) → after ≡ trip_run t rows
-      → Ended t (round_trip_numbers a) after
+  pub ended_through : (found : RoundTripped) → a ≡ Ok found → (after : TripLent) → after ≡ trip_run t found.rows
+      → Ended t (round_trip_numbers (Ok found)) after
   unfolding trip_after
-  ended_through rows ops calls q after r =
-      let told : trip_numbers t ≡ round_trip_numbers (Passed rows ops calls) = sym numbers ∙ ap round_trip_numbers q in
+  ended_through found q after r =
+      let told : trip_numbers t ≡ round_trip_numbers (Ok found) = sym numbers ∙ ap round_trip_numbers q in
       let none : eqb (trip_numbers t).answer.number 0 ≡ true = ap (λ (x : RoundTripNumbers). eqb x.answer.number 0) told in
-      let same : (trip_numbers t).rows ≡ rows = ap (λ (x : RoundTripNumbers). x.rows) told in
-      record { answer = numbers; lists = rw (none, same) r }
+      let same : (trip_numbers t).rows ≡ found.rows = ap (λ (x : RoundTripNumbers). x.rows) told in
+      record { answer = sym told; lists = rw (none, same) r }
 
-  -- a refusal writes nothing; its case is not Passed
-  pub ended_refused : ((rows ops calls : ℕ) → a ≡ Passed rows ops calls → ⊥) → Ended t (round_trip_numbers a) t.lists
+  -- a refusal writes nothing
+  pub ended_refused : (why : RoundTripRefusal) → a ≡ Err why → Ended t (round_trip_numbers (Err why)) t.lists
   unfolding trip_after
-  ended_refused h =
-      let other : eqb (trip_numbers t).answer.number 0 ≡ false =
-      ap (λ (x : RoundTripNumbers). eqb x.answer.number 0) (sym numbers) ∙ go a h in
-      record { answer = numbers; lists = rw other }
+  ended_refused why q =
+      let told : trip_numbers t ≡ round_trip_numbers (Err why) = sym numbers ∙ ap round_trip_numbers q in
+      let other : eqb (trip_numbers t).answer.number 0 ≡ false = ap (λ (x : RoundTripNumbers). eqb x.answer.number 0) told ∙ go why in
+      record { answer = sym told; lists = rw other }
     where
-      go : (b : RoundTripAnswer) → ((rows ops calls : ℕ) → b ≡ Passed rows ops calls → ⊥)
-          → eqb (round_trip_numbers b).answer.number 0 ≡ false
-      go (Passed rows ops calls) h = absurd (h rows ops calls refl)
-      go TooManyRecords h = refl
-      go (NotWhole place) h = refl
-      go BufferShort h = refl
+      go : (why : RoundTripRefusal) → eqb (round_trip_numbers (Err why)).answer.number 0 ≡ false
+      go TooManyRecords = refl
+      go (NotWhole place) = refl
+      go BufferShort = refl

@@ -11,13 +11,14 @@ use native.Mathlib.Omega.{arith}
 use borrow.Author.Tests.{lt-ltb, le-ltb, le-leb, lt-leb, ltb-true, ltb-false, leb-true, leb-false, eqb-true, eqb-false}
 use lib.Dec.{ltb, leb, eqb}
 use lib.ListN.{length}
+use Rattle.std.specs.Prelude.{Ok, Err}
 use Rattle.answer.specs.Numbers.{accepted, refused}
 use Rattle.lists.specs.Lists.{store, All}
 use Rattle.lists.proofs.Joined.{flat_map_length}
 use Rattle.records.specs.Records.{LIMIT, records_in}
 use Rattle.records.specs.RowCount.{row_count}
-use Rattle.records.specs.declared.TableAnswer.{TableAnswer}
-use Rattle.records.specs.declared.TableAnswer.TheVariants as table
+use Rattle.records.specs.Table.{TableAnswer}
+use Rattle.records.specs.declared.TableRefusal.TheVariants as table
 use Rattle.call.specs.Ops.{op_record, OP_WIDTH}
 use Rattle.call.specs.Flat.{CALL_WIDTH, HANDED_WIDTH}
 use Rattle.call.specs.Cuts.{CutCall, ops_of}
@@ -26,9 +27,8 @@ use Rattle.copy_row.specs.Columns.{COLUMNS}
 use Rattle.copy_row.specs.Trace.{copy_answer}
 use Rattle.copy_meaning.specs.Steps.{LiveStep}
 use Rattle.call_chain.proofs.Chained.{chain}
-use Rattle.read_back.specs.ReadBack.{ops_after, calls_after}
-use Rattle.read_back.specs.declared.ReadBackAnswer.{ReadBackAnswer}
-use Rattle.read_back.specs.declared.ReadBackAnswer.TheVariants as read
+use Rattle.read_back.specs.ReadBack.{ReadBackAnswer, ops_after, calls_after}
+use Rattle.read_back.specs.declared.ReadBackRefusal.TheVariants as read
 use Rattle.calls_in_turn.specs.Accepted.{accepted_of}
 use Rattle.calls_in_turn.specs.InTurn.{calls_in}
 use Rattle.calls_in_turn.specs.Counts.{all_records, all_calls}
@@ -40,11 +40,10 @@ use Rattle.whole_calls.proofs.GoodRecords.{records_wide, maker_answer}
 use Rattle.whole_calls.proofs.Accepted.{cut_try, tries_fit, tries_wrote}
 use Rattle.whole_calls.proofs.Demand.{demand3}
 use Rattle.round_trip.specs.Trip.{Trip, setting_of, tries, records_handed, calls_handed, maker, written, reader}
-use Rattle.round_trip.specs.Trip.{RoundTripNumbers, refused_by, from_reader, on_maker, steps_numbers, trip_numbers, round_trip_numbers}
+use Rattle.round_trip.specs.Trip.{RoundTripNumbers, refused_by, from_reader, on_maker, steps_numbers, trip_numbers, RoundTripAnswer, round_trip_numbers}
 use Rattle.round_trip.specs.Inner.{decided, foretold}
 use Rattle.round_trip.specs.RoundTrip.{TypedTrip, calls_count, GoodList}
-use Rattle.round_trip.specs.declared.RoundTripAnswer.{RoundTripAnswer}
-use Rattle.round_trip.specs.declared.RoundTripAnswer.TheVariants.{TooManyRecords, NotWhole, BufferShort}
+use Rattle.round_trip.specs.declared.RoundTripRefusal.TheVariants.{TooManyRecords, NotWhole, BufferShort}
 
 -- how many records and calls go in
 abbrev pub records_ahead : Trip → ℕ
@@ -119,8 +118,8 @@ module _ (t : Trip) (typed : TypedTrip t) where
 
   abbrev maker_for : ℕ → TableAnswer
   maker_for n =
-      cond (ltb LIMIT n) table.TooManyRecords
-      (cond (leb (COLUMNS * row_count n) (length t.lists.table)) (table.Made (row_count n)) table.BufferShort)
+      cond (ltb LIMIT n) (Err table.TooManyRecords)
+      (cond (leb (COLUMNS * row_count n) (length t.lists.table)) (Ok (row_count n)) (Err table.BufferShort))
 
   maker_is : maker t ≡ maker_for (records_ahead t)
   maker_is =
@@ -131,21 +130,21 @@ module _ (t : Trip) (typed : TypedTrip t) where
   pub steps_over : LIMIT < records_ahead t → steps_numbers t ≡ refused_by (refused 8 0)
   unfolding steps_numbers
   steps_over h =
-      let made : maker t ≡ table.TooManyRecords = maker_is ∙ rw (lt-ltb _ _ h) in
+      let made : maker t ≡ Err table.TooManyRecords = maker_is ∙ rw (lt-ltb _ _ h) in
       ap (λ (a : TableAnswer). on_maker a (λ rows. from_reader rows (reader t rows))) made
 
   module _ (few : records_ahead t ≤ LIMIT) where
     steps_unmade : length t.lists.table < COLUMNS * row_count (records_ahead t) → steps_numbers t ≡ refused_by (refused 9 0)
     unfolding steps_numbers
     steps_unmade h =
-        let made : maker t ≡ table.BufferShort = maker_is ∙ rw (le-ltb _ _ few, lt-leb _ _ h) in
+        let made : maker t ≡ Err table.BufferShort = maker_is ∙ rw (le-ltb _ _ few, lt-leb _ _ h) in
         ap (λ (a : TableAnswer). on_maker a (λ rows. from_reader rows (reader t rows))) made
 
     module _ (room : COLUMNS * row_count (records_ahead t) ≤ length t.lists.table) where
       abbrev rows : ℕ
       rows = row_count (records_ahead t)
 
-      pub made : maker t ≡ table.Made rows
+      pub made : maker t ≡ Ok rows
       made = maker_is ∙ rw (le-ltb _ _ few, le-leb _ _ room)
 
       -- demand 3
@@ -159,7 +158,7 @@ module _ (t : Trip) (typed : TypedTrip t) where
 
       pub steps_unread : (length t.lists.ops_back < OP_WIDTH * records_ahead t) ⊎ (length t.lists.calls_back < CALL_WIDTH * calls_ahead t)
           → steps_numbers t ≡ refused_by (refused 9 0)
-      steps_unread h = on_reader read.BufferShort ((by_demand.1 t.lists.ops_back t.lists.calls_back).short (go h))
+      steps_unread h = on_reader (Err read.BufferShort) ((by_demand.1 t.lists.ops_back t.lists.calls_back).short (go h))
         where
           go : (length t.lists.ops_back < OP_WIDTH * records_ahead t) ⊎ (length t.lists.calls_back < CALL_WIDTH * calls_ahead t)
               → (length t.lists.ops_back < length (records_handed t)) ⊎ (length t.lists.calls_back < length (calls_handed t))
@@ -167,7 +166,7 @@ module _ (t : Trip) (typed : TypedTrip t) where
           go (inr h) = inr (omega (arith, calls_length t))
 
       module _ (a : OP_WIDTH * records_ahead t ≤ length t.lists.ops_back) (b : CALL_WIDTH * calls_ahead t ≤ length t.lists.calls_back) where
-        back : (reader t rows ≡ read.Read (length (records_handed t) / OP_WIDTH) (length (calls_handed t) / CALL_WIDTH))
+        back : (reader t rows ≡ Ok (record { ops = length (records_handed t) / OP_WIDTH; calls = length (calls_handed t) / CALL_WIDTH }))
             × (ops_after (reader t rows) (written t rows) t.lists.ops_back ≡ store t.lists.ops_back 0 (records_handed t))
             × (calls_after (reader t rows) (written t rows) t.lists.calls_back ≡ store t.lists.calls_back 0 (calls_handed t))
         back =
@@ -177,7 +176,7 @@ module _ (t : Trip) (typed : TypedTrip t) where
         steps_passed =
             let n : length (records_handed t) / OP_WIDTH ≡ records_ahead t = omega (arith, handed_length t) in
             let m : length (calls_handed t) / CALL_WIDTH ≡ calls_ahead t = omega (arith, calls_length t) in
-            on_reader (read.Read (records_ahead t) (calls_ahead t)) (back.0 ∙ rw (n, m))
+            on_reader (Ok (record { ops = records_ahead t; calls = calls_ahead t })) (back.0 ∙ rw (n, m))
 
         pub read_ops_lem : ops_after (reader t rows) (written t rows) t.lists.ops_back ≡ store t.lists.ops_back 0 (records_handed t)
         read_ops_lem = back.1
@@ -201,7 +200,7 @@ module _ (t : Trip) (typed : TypedTrip t) where
   unfolding decided
   decided_is = go (way t)
     where
-      either : (b : Bool) → round_trip_numbers (cond b BufferShort BufferShort) ≡ refused_by (refused 9 0)
+      either : (b : Bool) → round_trip_numbers (cond b (Err BufferShort) (Err BufferShort)) ≡ refused_by (refused 9 0)
       either true = refl
       either false = refl
 
@@ -222,7 +221,7 @@ module _ (t : Trip) (typed : TypedTrip t) where
     where
       go : (many whole : Bool)
           → let place = length t.calls / HANDED_WIDTH in
-          round_trip_numbers (cond many TooManyRecords (cond whole (decided_of t) (NotWhole place)))
+          round_trip_numbers (cond many (Err TooManyRecords) (cond whole (decided_of t) (Err (NotWhole place))))
           ≡ cond many (refused_by (refused 8 0)) (cond whole (steps_numbers t) (refused_by (refused 10 place)))
       go true whole = refl
       go false true = decided_is

@@ -2,23 +2,21 @@
 -- read back. All of it is put together from the definitions that the contracts of the expansion, the maker and read-back cite. The list of
 -- calls is judged first, as every list of records is. Refused calls are passed over, the maker's and read-back's refusals are passed up
 -- unchanged, and a refusal writes nothing. Assumes nothing.
-use Rattle.std.specs.Prelude.{◌≡◌, cond, List, ℕ, ◌*◌, ◌/◌, ◌%◌, eqb, ltb, length, take}
+use Rattle.std.specs.Prelude.{◌≡◌, cond, List, ℕ, ◌*◌, ◌/◌, ◌%◌, eqb, ltb, length, take, Result, Ok, Err}
 use Rattle.answer.specs.Numbers as numbers
 use Rattle.answer.specs.declared.Answer.{Answer}
 use Rattle.records.specs.Records.{LIMIT, record_count}
-use Rattle.records.specs.Table.{table_numbers}
-use Rattle.records.specs.declared.TableAnswer.{TableAnswer}
-use Rattle.records.specs.declared.TableAnswer.TheVariants as table
+use Rattle.records.specs.Table.{TableAnswer, table_numbers}
 use Rattle.call.specs.Flat.{HANDED_WIDTH}
 use Rattle.expansion.specs.Tries.{Setting, under, Lent, lent, Try}
 use Rattle.copy_row.specs.Columns.{COLUMNS}
 use Rattle.copy_row.specs.Trace.{copy_answer, copy_after}
-use Rattle.read_back.specs.ReadBack.{read_back_answer, read_back_numbers, ops_after, calls_after}
-use Rattle.read_back.specs.declared.ReadBackAnswer.{ReadBackAnswer}
+use Rattle.read_back.specs.ReadBack.{ReadBackAnswer, read_back_answer, read_back_numbers, ops_after, calls_after}
 use Rattle.calls_in_turn.specs.Accepted.{accepted_ops, accepted_calls}
 use Rattle.calls_in_turn.specs.InTurn.{calls_in, tries_of, all_expanded}
-use Rattle.round_trip.specs.declared.RoundTripAnswer.{RoundTripAnswer}
-use Rattle.round_trip.specs.declared.RoundTripAnswer.TheVariants.{Passed, TooManyRecords, NotWhole, BufferShort}
+use Rattle.round_trip.specs.declared.RoundTripped.{RoundTripped}
+use Rattle.round_trip.specs.declared.RoundTripRefusal.{RoundTripRefusal}
+use Rattle.round_trip.specs.declared.RoundTripRefusal.TheVariants.{TooManyRecords, NotWhole, BufferShort}
 
 -- what is lent: the expansion's four slices, the table, and read-back's two buffers
 pub record TripLent : Type 0 where
@@ -62,7 +60,7 @@ abbrev pub maker : Trip → TableAnswer
 maker t = copy_answer LIMIT (records_handed t) (length t.lists.table)
 
 abbrev pub table_made : Trip → ℕ → List ℕ
-table_made t rows = copy_after (records_handed t) (table.Made rows) t.lists.table
+table_made t rows = copy_after (records_handed t) (Ok rows) t.lists.table
 
 -- the rows written, and not the rest of the table
 abbrev pub written : Trip → ℕ → List ℕ
@@ -92,10 +90,8 @@ from_reader rows a =
 
 -- the maker's refusal, unchanged; where it refuses nothing, `next` decides
 abbrev pub on_maker : TableAnswer → (ℕ → RoundTripNumbers) → RoundTripNumbers
-on_maker (table.Made rows) next = next rows
-on_maker table.TooManyRecords next = refused_by (table_numbers 8 table.TooManyRecords)
-on_maker (table.BadRecord place) next = refused_by (table_numbers 8 (table.BadRecord place))
-on_maker table.BufferShort next = refused_by (table_numbers 8 table.BufferShort)
+on_maker (Ok rows) next = next rows
+on_maker (Err why) next = refused_by (table_numbers 8 (Err why))
 
 -- the answer of the steps on a list of calls that is not refused itself
 unfoldable pub steps_numbers : Trip → RoundTripNumbers
@@ -112,12 +108,19 @@ on_list calls next =
 unfoldable pub trip_numbers : Trip → RoundTripNumbers
 trip_numbers t = on_list t.calls (steps_numbers t)
 
--- the numbers of each case of the code's answer
+-- what the code answers
+abbrev pub RoundTripAnswer : Type 0
+RoundTripAnswer = Result RoundTripped RoundTripRefusal
+
+-- document 01's number and place of each of its refusals, and the numbers of its answer
+abbrev pub round_trip_refusal_numbers : RoundTripRefusal → Answer
+round_trip_refusal_numbers TooManyRecords = numbers.refused 8 0
+round_trip_refusal_numbers (NotWhole place) = numbers.refused 10 place
+round_trip_refusal_numbers BufferShort = numbers.refused 9 0
+
 abbrev pub round_trip_numbers : RoundTripAnswer → RoundTripNumbers
-round_trip_numbers (Passed rows ops calls) = record { answer = numbers.accepted ops; rows = rows; calls = calls }
-round_trip_numbers TooManyRecords = refused_by (numbers.refused 8 0)
-round_trip_numbers (NotWhole place) = refused_by (numbers.refused 10 place)
-round_trip_numbers BufferShort = refused_by (numbers.refused 9 0)
+round_trip_numbers (Ok found) = record { answer = numbers.accepted found.ops; rows = found.rows; calls = found.calls }
+round_trip_numbers (Err why) = refused_by (round_trip_refusal_numbers why)
 
 -- What is lent, afterwards
 

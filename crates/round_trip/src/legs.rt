@@ -6,7 +6,7 @@ ghost use Rattle.expansion.specs.Tries.{lengths_are};
 ghost use Rattle.round_trip.specs.Trip.{trip_lent, trip_of, trip_run};
 ghost use Rattle.round_trip.specs.Inner.{decided, foretold, Tabled};
 
-use crate::RoundTripAnswer;
+use crate::{RoundTripRefusal, RoundTripped};
 use call::{CALL_WIDTH, HANDED_WIDTH, OP_WIDTH};
 use calls_in_turn::ahead::count;
 use calls_in_turn::turns::expand_all;
@@ -17,34 +17,36 @@ use records::LIMIT;
 use records::tables::{record_count, row_count};
 
 // The answer for `n` records and `m` calls: 8 and 9 of the maker, and 9 of read-back.
+#[tactic(auto, unfolding(crate::specs::Inner::decided))]
 fn decide(
     n: usize,
     m: usize,
     table_room: usize,
     ops_room: usize,
     calls_room: usize,
-) -> RoundTripAnswer
+) -> Result<RoundTripped, RoundTripRefusal>
     requires { CALL_WIDTH * m < 2 ^ 64 }
     ensures { result ≡ decided n m table_room ops_room calls_room }
 {
     if LIMIT < n {
-        return RoundTripAnswer::TooManyRecords;
+        return Err(RoundTripRefusal::TooManyRecords);
     }
     let rows = row_count(n as u64) as usize;
     if table_room < NUM_COLUMNS * rows {
-        return RoundTripAnswer::BufferShort;
+        return Err(RoundTripRefusal::BufferShort);
     }
     if (ops_room < OP_WIDTH * n) | (calls_room < CALL_WIDTH * m) {
-        return RoundTripAnswer::BufferShort;
+        return Err(RoundTripRefusal::BufferShort);
     }
-    RoundTripAnswer::Passed {
+    Ok(RoundTripped {
         rows,
         ops: n,
         calls: m,
-    }
+    })
 }
 
 // The answer, before anything is written: 8 and 10 of the list of calls, then what the counts of the accepted ones say.
+#[tactic(auto, unfolding(crate::specs::Inner::foretold))]
 pub fn foretell(
     gap: u64,
     calls: &[u64],
@@ -55,17 +57,17 @@ pub fn foretell(
     table_room: usize,
     ops_room: usize,
     calls_room: usize,
-) -> RoundTripAnswer
+) -> Result<RoundTripped, RoundTripRefusal>
     ensures { result
         ≡ foretold gap calls.now (lengths_are cells stamped room space) table_room ops_room calls_room }
 {
     if LIMIT < record_count(calls, HANDED_WIDTH) {
-        return RoundTripAnswer::TooManyRecords;
+        return Err(RoundTripRefusal::TooManyRecords);
     }
     if 0 < calls.len() % HANDED_WIDTH {
-        return RoundTripAnswer::NotWhole {
+        return Err(RoundTripRefusal::NotWhole {
             place: calls.len() / HANDED_WIDTH,
-        };
+        });
     }
     let found = count(gap, calls, cells, stamped, room, space);
     decide(found.ops, found.calls, table_room, ops_room, calls_room)
@@ -99,6 +101,6 @@ pub fn run(
         rows }
 {
     expand_all(gap, calls, bytes, stamps, ops, accesses);
-    generate_copy_trace(&ops[0..OP_WIDTH * n], table);
-    read_back(gap, &table[0..NUM_COLUMNS * rows], ops_back, calls_back);
+    let _ = generate_copy_trace(&ops[0..OP_WIDTH * n], table);
+    let _ = read_back(gap, &table[0..NUM_COLUMNS * rows], ops_back, calls_back);
 }

@@ -1,9 +1,11 @@
 -- What is said of one record and of all of them, case by case, and what a list that is routed says of itself. Document 01: refusals 8,
 -- 10, 11, 9, "lowest record first, 10 before 11 in one". Assumes nothing.
 use mathlib.Core.Path.{◌≡◌, refl, sym, ap, ◌∙◌, subst}
-use mathlib.Core.Bool.{Bool, true, false, cond, not, ◌&&◌, and-eq-true_iff}
+use mathlib.Core.Bool.{Bool, true, false, cond, not, ◌&&◌, and-eq-true_iff, true≢false}
 use mathlib.Core.List.{List}
 use Prim.Native.Nat.{ℕ, ◌-◌, ◌≤◌, ◌<◌}
+use Rattle.std.specs.Prelude.{Ok, Err}
+use Rattle.std.specs.Result.{IsErr}
 use native.Mathlib.Omega.{arith}
 use borrow.Author.Tests.{lt-ltb, le-ltb, ltb-false, leb-true}
 use lib.Dec.{ltb}
@@ -15,10 +17,10 @@ use Rattle.access.specs.declared.AccessTable.{AccessTable}
 use Rattle.access.specs.declared.AccessTable.TheVariants.{General, Aligned, Register}
 use Rattle.classify.specs.Classify.{is_register_op, is_aligned_op, table_for}
 use Rattle.classify.specs.TableRecord.{address_fits}
-use Rattle.routing.specs.Routing.{three, count_in, count_of, counts_of, routable, record_refusal, first_refused, fits, all_fit, routed, route_answer}
+use Rattle.routing.specs.Routing.{three, count_in, count_of, counts_of, Lists, RouteAnswer, routable, record_refusal, first_refused, fits, all_fit, routed, route_answer, lists_after}
 use Rattle.routing.specs.Inner.{judged, table_by, Holds}
-use Rattle.routing.specs.declared.RouteAnswer.{RouteAnswer}
-use Rattle.routing.specs.declared.RouteAnswer.TheVariants.{Routed, TooManyRecords, BadRecord, BadAddress, BufferShort}
+use Rattle.routing.specs.declared.RouteRefusal.{RouteRefusal}
+use Rattle.routing.specs.declared.RouteRefusal.TheVariants.{TooManyRecords, BadRecord, BadAddress, BufferShort}
 use Rattle.routing.specs.declared.split.Counts.{Counts}
 use Rattle.routing.proofs.Routes.{table_by_lem, by_table, count_le, Counted}
 
@@ -61,13 +63,13 @@ module _ (r : List ℕ) where
 
 module _ (l : List ℕ) (k : ℕ) where
   -- it stops there
-  pub judged_stop : (a : RouteAnswer) → k < record_count ACCESS_WIDTH l
+  pub judged_stop : (a : RouteRefusal) → k < record_count ACCESS_WIDTH l
       → first_refused l ≡ first (bad_at ACCESS_WIDTH routable l) k (record_count ACCESS_WIDTH l - k)
-      → routable (record_at ACCESS_WIDTH l k) ≡ false → record_refusal (record_at ACCESS_WIDTH l k) k ≡ a → a ≡ judged l
+      → routable (record_at ACCESS_WIDTH l k) ≡ false → record_refusal (record_at ACCESS_WIDTH l k) k ≡ a → Err a ≡ judged l
   unfolding judged
   judged_stop a h q refused e =
       let z : first_refused l ≡ k = q ∙ bad_stop ACCESS_WIDTH routable l k h refused in
-      rw (z, lt-ltb k (record_count ACCESS_WIDTH l) h) (sym e)
+      rw (z, lt-ltb k (record_count ACCESS_WIDTH l) h) (ap Err (sym e))
 
   -- or all are passed, and counted
   pub judged_end : (c : Counts) → k ≡ record_count ACCESS_WIDTH l → Counted l c k
@@ -81,54 +83,57 @@ module _ (l : List ℕ) (k : ℕ) where
       all : (t : AccessTable) → count_in t c ≡ count_of t l (record_count ACCESS_WIDTH l)
       all t = counted t ∙ ap (count_of t l) e
 
--- no count is above the record count
 Bounded : List ℕ → RouteAnswer → Type 0
-Bounded l (Routed r a g) = (t : AccessTable) → count_in t (three r a g) ≤ record_count ACCESS_WIDTH l
-Bounded l TooManyRecords = Unit {0}
-Bounded l (BadRecord k) = Unit {0}
-Bounded l (BadAddress k) = Unit {0}
-Bounded l BufferShort = Unit {0}
+Bounded l (Ok c) = (t : AccessTable) → count_in t c ≤ record_count ACCESS_WIDTH l
+Bounded l (Err why) = Unit {0}
 
-pub judged_le : (l : List ℕ) (c : Counts) → judged l ≡ routed c → (t : AccessTable) → count_in t c ≤ record_count ACCESS_WIDTH l
+judged_le : (l : List ℕ) (c : Counts) → judged l ≡ routed c → (t : AccessTable) → count_in t c ≤ record_count ACCESS_WIDTH l
 unfolding judged Bounded
-judged_le l c e = subst (Bounded l) e (step (ltb (first_refused l) (record_count ACCESS_WIDTH l)) (good_access (record_at ACCESS_WIDTH l (first_refused l))))
+judged_le l c e = subst (Bounded l) e (step (ltb (first_refused l) (record_count ACCESS_WIDTH l)))
   where
-    step : (b good : Bool) → Bounded l (cond b (cond good (BadAddress (first_refused l)) (BadRecord (first_refused l))) (routed (counts_of l)))
-    step true true = tt
-    step true false = tt
-    step false good =
+    step : (b : Bool) → Bounded l (cond b (Err (record_refusal (record_at ACCESS_WIDTH l (first_refused l)) (first_refused l))) (routed (counts_of l)))
+    step true = tt
+    step false =
         by_table (λ t. count_in t (counts_of l) ≤ record_count ACCESS_WIDTH l) (count_le Register l _) (count_le Aligned l _) (count_le General l _)
+
+-- no count is above the record count
+pub judged_few : (l : List ℕ) (c : Counts) → judged l ≡ routed c
+    → (c.register ≤ record_count ACCESS_WIDTH l) × ((c.aligned ≤ record_count ACCESS_WIDTH l) × (c.general ≤ record_count ACCESS_WIDTH l))
+judged_few l c e = (judged_le l c e Register, (judged_le l c e Aligned, judged_le l c e General))
 
 -- The answer
 
 module _ (limit : ℕ) (l : List ℕ) (rooms : Counts) where
-  pub answer_over : limit < record_count ACCESS_WIDTH l → TooManyRecords ≡ route_answer limit l rooms
+  pub answer_over : limit < record_count ACCESS_WIDTH l → Err TooManyRecords ≡ route_answer limit l rooms
   unfolding route_answer
   answer_over h = rw (lt-ltb limit (record_count ACCESS_WIDTH l) h)
 
   -- what the lengths of the lent lists make of the counts
   abbrev pub roomed : RouteAnswer → RouteAnswer
-  roomed (Routed r a g) = cond (all_fit (three r a g) rooms) (Routed r a g) BufferShort
-  roomed TooManyRecords = TooManyRecords
-  roomed (BadRecord k) = BadRecord k
-  roomed (BadAddress k) = BadAddress k
-  roomed BufferShort = BufferShort
+  roomed (Ok c) = cond (all_fit c rooms) (Ok c) (Err BufferShort)
+  roomed (Err why) = Err why
 
   answer_roomed : record_count ACCESS_WIDTH l ≤ limit → roomed (judged l) ≡ route_answer limit l rooms
   unfolding route_answer judged
   answer_roomed h = rw (le-ltb limit (record_count ACCESS_WIDTH l) h) (step (ltb (first_refused l) (record_count ACCESS_WIDTH l)))
     where
-      same : (g : Bool) (k : ℕ) → roomed (cond g (BadAddress k) (BadRecord k)) ≡ cond g (BadAddress k) (BadRecord k)
-      same true k = refl
-      same false k = refl
-
-      step : (b : Bool) → let refused = record_refusal (record_at ACCESS_WIDTH l (first_refused l)) (first_refused l) in
-          roomed (cond b refused (routed (counts_of l))) ≡ cond b refused (roomed (routed (counts_of l)))
-      step true = same (good_access (record_at ACCESS_WIDTH l (first_refused l))) (first_refused l)
+      step : (b : Bool) → let refusal = Err (record_refusal (record_at ACCESS_WIDTH l (first_refused l)) (first_refused l)) in
+          roomed (cond b refusal (routed (counts_of l))) ≡ cond b refusal (roomed (routed (counts_of l)))
+      step true = refl
       step false = refl
 
-  pub answer_is : record_count ACCESS_WIDTH l ≤ limit → (a : RouteAnswer) → judged l ≡ a → roomed a ≡ route_answer limit l rooms
+  answer_is : record_count ACCESS_WIDTH l ≤ limit → (a : RouteAnswer) → judged l ≡ a → roomed a ≡ route_answer limit l rooms
   answer_is h a e = ap roomed (sym e) ∙ answer_roomed h
+
+  pub answer_refused : (why : RouteRefusal) → record_count ACCESS_WIDTH l ≤ limit → judged l ≡ Err why → Err why ≡ route_answer limit l rooms
+  answer_refused why h e = answer_is h (Err why) e
+
+  pub answer_fits : (c : Counts) → record_count ACCESS_WIDTH l ≤ limit → judged l ≡ Ok c → all_fit c rooms ≡ true → Ok c ≡ route_answer limit l rooms
+  answer_fits c h e fit = sym (ap (λ b. cond b (Ok c) (Err BufferShort)) fit) ∙ answer_is h (Ok c) e
+
+  pub answer_short : (c : Counts) → record_count ACCESS_WIDTH l ≤ limit → judged l ≡ Ok c → all_fit c rooms ≡ false
+      → Err BufferShort ≡ route_answer limit l rooms
+  answer_short c h e short = sym (ap (λ b. cond b (Ok c) (Err BufferShort)) short) ∙ answer_is h (Ok c) e
 
   -- a list that is routed
   pub record RoutedFacts (c : Counts) : Type 0 where
@@ -138,25 +143,21 @@ module _ (limit : ℕ) (l : List ℕ) (rooms : Counts) where
     pub holds : (t : AccessTable) → Holds t l rooms
 
   Facts : RouteAnswer → Type 0
-  Facts (Routed r a g) = RoutedFacts (three r a g)
-  Facts TooManyRecords = Unit {0}
-  Facts (BadRecord k) = Unit {0}
-  Facts (BadAddress k) = Unit {0}
-  Facts BufferShort = Unit {0}
+  Facts (Ok c) = RoutedFacts c
+  Facts (Err why) = Unit {0}
 
   facts : Facts (route_answer limit l rooms)
   unfolding Facts route_answer
-  facts = step _ _ _ (good_access (record_at ACCESS_WIDTH l (first_refused l))) refl refl refl
+  facts = step _ _ _ refl refl refl
     where
-      step : (x y z g : Bool) → ltb limit (record_count ACCESS_WIDTH l) ≡ x → ltb (first_refused l) (record_count ACCESS_WIDTH l) ≡ y
+      step : (x y z : Bool) → ltb limit (record_count ACCESS_WIDTH l) ≡ x → ltb (first_refused l) (record_count ACCESS_WIDTH l) ≡ y
           → all_fit (counts_of l) rooms ≡ z
-          → let refused = cond g (BadAddress (first_refused l)) (BadRecord (first_refused l)) in
-          Facts (cond x TooManyRecords (cond y refused (cond z (routed (counts_of l)) BufferShort)))
-      step true y z g hx hy hz = tt
-      step false true z true hx hy hz = tt
-      step false true z false hx hy hz = tt
-      step false false false g hx hy hz = tt
-      step false false true g hx hy hz =
+          → let refusal = Err (record_refusal (record_at ACCESS_WIDTH l (first_refused l)) (first_refused l)) in
+          Facts (cond x (Err TooManyRecords) (cond y refusal (cond z (routed (counts_of l)) (Err BufferShort))))
+      step true y z hx hy hz = tt
+      step false true z hx hy hz = tt
+      step false false false hx hy hz = tt
+      step false false true hx hy hz =
           let a = (and-eq-true_iff (fits Register (counts_of l) rooms) _).0 hz in
           let b = (and-eq-true_iff (fits Aligned (counts_of l) rooms) (fits General (counts_of l) rooms)).0 a.1 in
           record {
@@ -169,6 +170,12 @@ module _ (limit : ℕ) (l : List ℕ) (rooms : Counts) where
   pub routed_facts : (c : Counts) → route_answer limit l rooms ≡ routed c → RoutedFacts c
   unfolding Facts
   routed_facts c e = subst Facts e facts
+
+-- a refusal writes nothing
+pub lists_kept : (l : List ℕ) (a : RouteAnswer) (ls : Lists) → IsErr a → ls ≡ lists_after l a ls
+unfolding lists_after
+lists_kept l (Ok c) ls e = absurd (true≢false (sym e))
+lists_kept l (Err why) ls e = refl
 
 -- where no record is refused, each is good
 pub all_routable : (l : List ℕ) → record_count ACCESS_WIDTH l ≤ first_refused l → (k : ℕ) → k < record_count ACCESS_WIDTH l

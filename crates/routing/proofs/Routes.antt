@@ -33,6 +33,16 @@ table_by_lem r = step (is_register_op r) (is_aligned_op r)
     step false true = refl
     step false false = refl
 
+module _ (r : List ℕ) where
+  pub table_register : is_register_op r ≡ true → table_for r ≡ Register
+  table_register e = sym (table_by_lem r) ∙ ap (λ a. table_by a (is_aligned_op r)) e
+
+  pub table_aligned : is_register_op r ≡ false → is_aligned_op r ≡ true → table_for r ≡ Aligned
+  table_aligned e f = sym (table_by_lem r) ∙ (λ i. table_by (e i) (f i))
+
+  pub table_general : is_register_op r ≡ false → is_aligned_op r ≡ false → table_for r ≡ General
+  table_general e f = sym (table_by_lem r) ∙ (λ i. table_by (e i) (f i))
+
 -- what holds of each table holds of all
 pub by_table : (P : AccessTable → Type 0) → P Register → P Aligned → P General → (t : AccessTable) → P t
 by_table P r a g General = g

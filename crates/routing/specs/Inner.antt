@@ -1,5 +1,5 @@
 -- What one record does to the counts and to the lent lists: cited by the contracts of inner functions alone. Assumes nothing.
-use Rattle.std.specs.Prelude.{◌≡◌, ℕ, ◌+◌, ◌*◌, ◌^◌, ◌≤◌, ◌<◌, Bool, true, cond, List, ltb}
+use Rattle.std.specs.Prelude.{◌≡◌, ℕ, ◌+◌, ◌*◌, ◌^◌, ◌≤◌, ◌<◌, Bool, true, cond, List, ltb, Err}
 use Rattle.lists.specs.Inner.{placed}
 use Rattle.records.specs.Records.{record_count, record_at}
 use Rattle.access.specs.Access.{ACCESS_WIDTH}
@@ -8,14 +8,13 @@ use Rattle.access.specs.declared.AccessTable.{AccessTable}
 use Rattle.access.specs.declared.AccessTable.TheVariants.{General, Aligned, Register}
 use Rattle.classify.specs.Classify.{table_for}
 use Rattle.classify.specs.TableRecord.{table_record}
-use Rattle.routing.specs.Routing.{three, count_in, Lists, list_of, count_of, counts_of, first_refused, record_refusal, routed, filled_list}
-use Rattle.routing.specs.declared.RouteAnswer.{RouteAnswer}
+use Rattle.routing.specs.Routing.{three, count_in, Lists, list_of, count_of, counts_of, RouteAnswer, first_refused, record_refusal, routed, filled_list}
 use Rattle.routing.specs.declared.split.Counts.{Counts}
 
 -- the refusal of the lowest record that is refused, or the counts
 unfoldable pub judged : List ℕ → RouteAnswer
 judged l =
-    cond (ltb (first_refused l) (record_count ACCESS_WIDTH l)) (record_refusal (record_at ACCESS_WIDTH l (first_refused l)) (first_refused l))
+    cond (ltb (first_refused l) (record_count ACCESS_WIDTH l)) (Err (record_refusal (record_at ACCESS_WIDTH l (first_refused l)) (first_refused l)))
     (routed (counts_of l))
 
 -- the table that an access's two tests lead to: register first

@@ -6,25 +6,18 @@ pub mod split;
 
 ghost use Rattle.std.specs.Prelude.{◌≡◌};
 ghost use Rattle.records.specs.Records.{LIMIT};
-ghost use Rattle.routing.specs.Routing.{lists, route_numbers, RouteDone};
+ghost use Rattle.routing.specs.Routing.{lists, route_refusal_numbers, route_numbers, RouteDone};
 
+use answer::{Answer, refuse};
 use records::LIMIT;
+use split::Counts;
 
-// One case for each answer of routing: how many records each list got, or document 01's refusals 8, 10, 11 and 9.
+// Document 01's refusals 8, 10, 11 and 9 of routing.
 #[derive(Clone, Copy)]
-pub enum RouteAnswer {
-    Routed {
-        register: usize,
-        aligned: usize,
-        general: usize,
-    },
+pub enum RouteRefusal {
     TooManyRecords,
-    BadRecord {
-        place: usize,
-    },
-    BadAddress {
-        place: usize,
-    },
+    BadRecord { place: usize },
+    BadAddress { place: usize },
     BufferShort,
 }
 
@@ -46,7 +39,7 @@ pub fn route_accesses(
     register: &mut [u64],
     aligned: &mut [u64],
     general: &mut [u64],
-) -> RouteAnswer
+) -> Result<Counts, RouteRefusal>
     ensures { RouteDone LIMIT 8 accesses.now
         (lists register.old aligned.old general.old)
         (route_numbers 8 result) (lists register.new aligned.new general.new) }
@@ -55,37 +48,38 @@ pub fn route_accesses(
 }
 
 // Document 01's number and place of an answer, and its counts; `over` is the number of the refusal of too many records.
-pub fn numbers(over: u64, a: RouteAnswer) -> RouteNumbers
-    ensures { result ≡ route_numbers over a }
+pub fn numbers(over: u64, found: Result<Counts, RouteRefusal>) -> RouteNumbers
+    ensures { result ≡ route_numbers over found }
 {
-    match a {
-        RouteAnswer::Routed {
-            register,
-            aligned,
-            general,
-        } => RouteNumbers {
+    match found {
+        Ok(counts) => RouteNumbers {
             number: 0,
             place: 0,
-            register: register as u64,
-            aligned: aligned as u64,
-            general: general as u64,
+            register: counts.register as u64,
+            aligned: counts.aligned as u64,
+            general: counts.general as u64,
         },
-        RouteAnswer::TooManyRecords => refused(over, 0),
-        RouteAnswer::BadRecord { place } => refused(10, place as u64),
-        RouteAnswer::BadAddress { place } => refused(11, place as u64),
-        RouteAnswer::BufferShort => refused(9, 0),
+        Err(why) => {
+            let refusal = refusal_numbers(over, why);
+            RouteNumbers {
+                number: refusal.number,
+                place: refusal.place,
+                register: 0,
+                aligned: 0,
+                general: 0,
+            }
+        }
     }
 }
 
-// A refusal with its place.
-fn refused(number: u64, place: u64) -> RouteNumbers
-    ensures { result ≡ record { number = number; place = place; register = 0; aligned = 0; general = 0 } }
+// Document 01's number and place of a refusal.
+pub fn refusal_numbers(over: u64, why: RouteRefusal) -> Answer
+    ensures { result ≡ route_refusal_numbers over why }
 {
-    RouteNumbers {
-        number,
-        place,
-        register: 0,
-        aligned: 0,
-        general: 0,
+    match why {
+        RouteRefusal::TooManyRecords => refuse(over, 0),
+        RouteRefusal::BadRecord { place } => refuse(10, place as u64),
+        RouteRefusal::BadAddress { place } => refuse(11, place as u64),
+        RouteRefusal::BufferShort => refuse(9, 0),
     }
 }

@@ -4,10 +4,10 @@ ghost use Rattle.std.specs.Prelude.{◌≡◌, true, ℕ, ◌^◌, ◌≤◌, �
 ghost use Rattle.records.specs.Records.{record_count, record_at};
 ghost use Rattle.access.specs.Access.{ACCESS_WIDTH, good_access};
 ghost use Rattle.access.specs.declared.AccessTable.{AccessTable};
-ghost use Rattle.routing.specs.Routing.{three, lists, rooms_of, route_answer, lists_after};
+ghost use Rattle.routing.specs.Routing.{lists, rooms_of, route_answer, lists_after};
 ghost use Rattle.routing.specs.Inner.{judged, table_by, with_one, Few, RoomFor, Holds, Put, Written};
 
-use crate::RouteAnswer;
+use crate::RouteRefusal;
 use access::{ACCESS_WIDTH, AccessTable, BASE_ADDRESS, REGISTER_WIDTH, good_access};
 use classify::route::{address_fits, is_aligned_op, is_register_op, register_record};
 use lists::slices;
@@ -22,80 +22,53 @@ pub struct Counts {
 }
 
 // Routes at most `limit` records.
+#[tactic(auto, using(crate::proofs::Judging::lists_kept))]
 pub fn route(
     limit: usize,
     accesses: &[u64],
     register: &mut [u64],
     aligned: &mut [u64],
     general: &mut [u64],
-) -> RouteAnswer
+) -> Result<Counts, RouteRefusal>
     requires { limit ≤ 2 ^ 20 }
     ensures answer { result ≡ route_answer limit accesses.now
         (rooms_of (lists register.old aligned.old general.old)) }
     ensures lists { lists register.new aligned.new general.new
         ≡ lists_after accesses.now result (lists register.old aligned.old general.old) }
 {
-    let answer = route_answer(
-        limit,
-        accesses,
-        register.len(),
-        aligned.len(),
-        general.len(),
-    );
-    match answer {
-        RouteAnswer::Routed {
-            register: _,
-            aligned: _,
-            general: _,
-        } => {
-            write_routes(accesses, register, aligned, general);
-            answer
-        }
-        RouteAnswer::TooManyRecords => answer,
-        RouteAnswer::BadRecord { place: _ } => answer,
-        RouteAnswer::BadAddress { place: _ } => answer,
-        RouteAnswer::BufferShort => answer,
-    }
+    let rooms = Counts {
+        register: register.len(),
+        aligned: aligned.len(),
+        general: general.len(),
+    };
+    let counts = route_answer(limit, accesses, rooms)?;
+    write_routes(accesses, register, aligned, general);
+    Ok(counts)
 }
 
 // The answer for lent lists of so many numbers.
-fn route_answer(
-    limit: usize,
-    accesses: &[u64],
-    register: usize,
-    aligned: usize,
-    general: usize,
-) -> RouteAnswer
+#[tactic(auto, using(crate::proofs::Judging::answer_over, crate::proofs::Judging::answer_refused, crate::proofs::Judging::answer_fits, crate::proofs::Judging::answer_short, crate::proofs::Judging::judged_few))]
+fn route_answer(limit: usize, accesses: &[u64], rooms: Counts) -> Result<Counts, RouteRefusal>
     requires { limit ≤ 2 ^ 20 }
-    ensures { result ≡ route_answer limit accesses.now (three register aligned general) }
+    ensures { result ≡ route_answer limit accesses.now rooms }
 {
     let n = record_count(accesses, ACCESS_WIDTH);
     if limit < n {
-        return RouteAnswer::TooManyRecords;
+        return Err(RouteRefusal::TooManyRecords);
     }
-    let answer = judge(accesses, n);
-    match answer {
-        RouteAnswer::Routed {
-            register: r,
-            aligned: a,
-            general: g,
-        } => {
-            if (REGISTER_WIDTH * r <= register)
-                & ((ACCESS_WIDTH * a <= aligned) & (ACCESS_WIDTH * g <= general))
-            {
-                return answer;
-            }
-            RouteAnswer::BufferShort
-        }
-        RouteAnswer::TooManyRecords => answer,
-        RouteAnswer::BadRecord { place: _ } => answer,
-        RouteAnswer::BadAddress { place: _ } => answer,
-        RouteAnswer::BufferShort => answer,
+    let counts = judge(accesses, n)?;
+    if (REGISTER_WIDTH * counts.register <= rooms.register)
+        & ((ACCESS_WIDTH * counts.aligned <= rooms.aligned)
+            & (ACCESS_WIDTH * counts.general <= rooms.general))
+    {
+        return Ok(counts);
     }
+    Err(RouteRefusal::BufferShort)
 }
 
-// The lowest record that is refused, or how many records go to each list.
-pub fn judge(accesses: &[u64], n: usize) -> RouteAnswer
+// How many records go to each list, or the lowest record that is refused.
+#[tactic(auto, using(access::proofs::Good::good_length))]
+pub fn judge(accesses: &[u64], n: usize) -> Result<Counts, RouteRefusal>
     requires { (n ≡ record_count ACCESS_WIDTH accesses.now) × (n ≤ 2 ^ 20) }
     ensures { result ≡ judged accesses.now }
 {
@@ -104,28 +77,23 @@ pub fn judge(accesses: &[u64], n: usize) -> RouteAnswer
         aligned: 0,
         general: 0,
     };
-    let mut k = 0;
-    while k < n {
+    for k in 0..n {
         let op = record_at(accesses, ACCESS_WIDTH, k);
         if !good_access(op) {
-            return RouteAnswer::BadRecord { place: k };
+            return Err(RouteRefusal::BadRecord { place: k });
         }
         let to_register = is_register_op(op);
         let to_aligned = is_aligned_op(op);
         if to_register & !address_fits(AccessTable::Register, op[BASE_ADDRESS]) {
-            return RouteAnswer::BadAddress { place: k };
+            return Err(RouteRefusal::BadAddress { place: k });
         }
         counts = one_more(to_register, to_aligned, counts);
-        k += 1;
     }
-    RouteAnswer::Routed {
-        register: counts.register,
-        aligned: counts.aligned,
-        general: counts.general,
-    }
+    Ok(counts)
 }
 
 // One record more for the table that the two tests lead to, each of the three counts without a branch.
+#[tactic(auto, using(crate::proofs::Routes::counts_with_one))]
 fn one_more(to_register: bool, to_aligned: bool, counts: Counts) -> Counts
     requires { Few counts }
     ensures { result ≡ with_one (table_by to_register to_aligned) counts }
@@ -151,15 +119,14 @@ fn write_routes(accesses: &[u64], register: &mut [u64], aligned: &mut [u64], gen
         aligned: 0,
         general: 0,
     };
-    let mut k = 0;
-    while k < n {
+    for k in 0..n {
         let op = record_at(accesses, ACCESS_WIDTH, k);
         ends = put_access(op, ends, register, aligned, general);
-        k += 1;
     }
 }
 
 // Writes one record behind the `ends` that each list has. A record is copied as 29 numbers: with the length in the code, no call is made.
+#[tactic(auto, using(access::proofs::Good::good_length))]
 fn put_access(
     op: &[u64],
     ends: Counts,
@@ -177,12 +144,10 @@ fn put_access(
     if to_register {
         let record = register_record(op);
         slices::put_at(register, REGISTER_WIDTH * ends.register, &record);
-        return one_more(to_register, to_aligned, ends);
-    }
-    if to_aligned {
+    } else if to_aligned {
         slices::put_at(aligned, ACCESS_WIDTH * ends.aligned, &op[0..ACCESS_WIDTH]);
-        return one_more(to_register, to_aligned, ends);
+    } else {
+        slices::put_at(general, ACCESS_WIDTH * ends.general, &op[0..ACCESS_WIDTH]);
     }
-    slices::put_at(general, ACCESS_WIDTH * ends.general, &op[0..ACCESS_WIDTH]);
     one_more(to_register, to_aligned, ends)
 }

@@ -6,43 +6,43 @@ pub mod fault;
 
 ghost use Rattle.std.specs.Prelude.{◌≡◌, true};
 ghost use Rattle.row_check.specs.Instances.{Instances};
-ghost use Rattle.row_check.specs.RowAnswer.{place_in, row_answer, fault_numbers, row_numbers};
+ghost use Rattle.row_check.specs.RowAnswer.{place_in, row_answer, fault_numbers, row_refused_numbers, row_numbers};
 
-use answer::{Answer, accept, refuse};
-use copy_residues::faults::{RowCheckRefusal, RowFault};
+use answer::{Answer, refuse};
+use copy_residues::faults::RowCheckRefusal;
 use copy_row::cols::NUM_COLUMNS;
 use fault::row_fault;
 use field::rows::first_large;
 
-// What one row is found to be.
+// Why one row is refused.
 #[derive(Clone, Copy)]
-pub enum RowAnswer {
-    Passed,
+pub enum RowRefused {
     // 7: the gap is 2^32 or more
     GapTooLarge,
     // 13: the numbers are not those of one row
     NotRow,
     // 14, 15, 16, with the place of the refusal
-    Refused { place: u64, why: RowCheckRefusal },
+    Row { place: u64, why: RowCheckRefusal },
 }
 
 // Checks one row of 41 numbers under a gap: nothing, or the first check that fails. A dead row and a live row without FIRST are judged
 // like any other.
-pub fn row_check(gap: u64, row: &[u64]) -> RowAnswer
+#[tactic(auto, using(crate::proofs::Answers::gap_large, crate::proofs::Answers::not_row, crate::proofs::Answers::judged))]
+pub fn row_check(gap: u64, row: &[u64]) -> Result<(), RowRefused>
     ensures answer { row_numbers result ≡ row_numbers (row_answer gap row.now) }
 {
     if 0x1_0000_0000 <= gap {
-        return RowAnswer::GapTooLarge;
+        return Err(RowRefused::GapTooLarge);
     }
     if row.len() != NUM_COLUMNS {
-        return RowAnswer::NotRow;
+        return Err(RowRefused::NotRow);
     }
     match row_fault(gap, row) {
-        RowFault::Fine => RowAnswer::Passed,
-        RowFault::Faulty { why } => RowAnswer::Refused {
+        Ok(()) => Ok(()),
+        Err(why) => Err(RowRefused::Row {
             place: place_in(row, why),
             why,
-        },
+        }),
     }
 }
 
@@ -72,19 +72,28 @@ pub fn fault_numbers(place: u64, why: RowCheckRefusal) -> Answer
     }
 }
 
-// The same of an answer.
-pub fn row_numbers(a: RowAnswer) -> Answer
-    ensures { result ≡ row_numbers a }
-{
-    match a {
-        RowAnswer::Passed => accept(0),
-        RowAnswer::GapTooLarge => refuse(7, 0),
-        RowAnswer::NotRow => refuse(13, 0),
-        RowAnswer::Refused { place, why } => fault_numbers(place, why),
+// The same of a refusal.
+impl From<RowRefused> for Answer {
+    ghost from_gives = { λ why a. a ≡ row_refused_numbers why };
+
+    fn from(why: RowRefused) -> Answer {
+        match why {
+            RowRefused::GapTooLarge => refuse(7, 0),
+            RowRefused::NotRow => refuse(13, 0),
+            RowRefused::Row { place, why } => fault_numbers(place, why),
+        }
     }
 }
 
+// And of what a row is found to be.
+pub fn row_numbers(found: Result<(), RowRefused>) -> Answer
+    ensures { result ≡ row_numbers found }
+{
+    answer::numbers(found.map(|()| 0))
+}
+
 // A row for each of these answers is its contract.
+#[tactic(auto, using(crate::proofs::Instances::instances))]
 pub fn row_answers_hold() -> bool
     ensures { (result ≡ true) × Instances }
 {

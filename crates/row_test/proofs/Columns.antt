@@ -1,5 +1,5 @@
--- What it says of the columns that they lie below their caps, that those of a row that passes do, and the two tests that look at columns
--- one by one. Assumes nothing.
+-- What it says of the columns that they lie below their caps: they are words, halves and bits. That those of a row that passes do, and the
+-- two tests that look at columns one by one. Assumes nothing.
 use mathlib.Core.Path.{◌≡◌, refl, sym, ap, ◌∙◌, subst}
 use mathlib.Core.Bool.{Bool, true, not, ◌&&◌, ◌||◌}
 use mathlib.Core.Logic.{◌↔◌}
@@ -9,15 +9,16 @@ use native.Mathlib.Omega.{arith}
 use lib.Dec.{eqb, leb, lit<, lit≤}
 use lib.ListN.{length, get_or, take, drop}
 use borrow.Author.Tests.{eqb-true, eqb-false, leb-true, not-false}
+use Rattle.std.specs.Prelude.{Ok}
 use Rattle.lists.specs.Lists.{first, at}
 use Rattle.lists.proofs.First.{first_none_lem}
-use Rattle.copy_row.specs.Columns.{VALUE, SRC, FIRST, SINGLE, COLUMNS}
+use Rattle.copy_row.specs.Columns.{TIMESTAMP, VALUE, SRC, SRC_INCR, DST, DST_INCR, COUNT, COUNT_DECR, DST_RES, FIRST, SINGLE, COLUMNS}
 use Rattle.copy_residues.specs.Range.{column_limits}
 use Rattle.copy_residues.specs.RowCheck.{row_fault}
-use Rattle.copy_residues.specs.declared.faults.RowFault.TheVariants.{Fine}
 use Rattle.copy_meaning.specs.Plain.{TailAt}
+use Rattle.copy_meaning.specs.Inner.{TwoWords, FourHalves}
 use Rattle.copy_meaning.specs.RowIff.{InRange}
-use Rattle.copy_meaning.proofs.Columns.{columns_of}
+use Rattle.copy_meaning.proofs.Columns.{columns_of, stamp_words_lem, src_words, src_halves, dst_words, dst_halves, count_words, count_halves, res_halves}
 use Rattle.copy_meaning.proofs.PlainOfRow.{tail_at, below_of_row}
 use Rattle.copy_meaning.proofs.RowIff.{row_iff}
 use Rattle.row_test.specs.Inner.{caps, Caps}
@@ -47,8 +48,32 @@ module _ (row : List ℕ) (fit : Caps row) where
   unfolding Caps
   flag_bit c l h = omega (arith, fit c h, caps_flags c l h)
 
+  pub stamp_capped : TwoWords row TIMESTAMP
+  stamp_capped = stamp_words_lem row in_range
+
+  pub src_capped : TwoWords row SRC
+  src_capped = src_words row in_range
+
+  pub src_incr_capped : FourHalves row SRC_INCR
+  src_incr_capped = src_halves row in_range
+
+  pub dst_capped : TwoWords row DST
+  dst_capped = dst_words row in_range
+
+  pub dst_incr_capped : FourHalves row DST_INCR
+  dst_incr_capped = dst_halves row in_range
+
+  pub count_capped : TwoWords row COUNT
+  count_capped = count_words row in_range
+
+  pub count_decr_capped : FourHalves row COUNT_DECR
+  count_decr_capped = count_halves row in_range
+
+  pub res_capped : FourHalves row DST_RES
+  res_capped = res_halves row in_range
+
 -- a row that passes is made from its record, and its flags are bits
-pub caps_of_fine : (gap : ℕ) → gap < 2 ^ 32 → (row : List ℕ) → length row ≡ COLUMNS → row_fault gap row ≡ Fine → Caps row
+pub caps_of_fine : (gap : ℕ) → gap < 2 ^ 32 → (row : List ℕ) → length row ≡ COLUMNS → row_fault gap row ≡ Ok tt → Caps row
 unfolding Caps caps
 caps_of_fine gap g row wide e =
     let h = (row_iff gap g row wide).0 e in
@@ -86,7 +111,8 @@ module _ (row : List ℕ) (wide : length row ≡ COLUMNS) where
             test.1 (((first, f 7 (lit< tt) (lit< tt)), f 8 (lit< tt) (lit< tt)), f 9 (lit< tt) (lit< tt)),
       )
 
-  pub tail_iff : at row SINGLE < 2 → (zero_at SINGLE || tail_test ≡ true) ↔ TailAt row
-  tail_iff bit =
+  pub tail_iff : Caps row → (zero_at SINGLE || tail_test ≡ true) ↔ TailAt row
+  tail_iff fit =
+      let bit = flag_bit row fit SINGLE (lit≤ tt) (lit< tt) in
       or_iff (zero_at SINGLE) tail_test (λ z one. absurd (omega (arith, eqb-true (at row SINGLE) 0 z)))
       (λ z. (λ h one. tail_zero.0 h, λ q. tail_zero.1 (q (omega (arith, eqb-false (at row SINGLE) 0 z)))))

@@ -10,13 +10,11 @@ use words::{wrapping_add, wrapping_sub};
 fn empty(count: u64) -> u64
     ensures { result ≡ 1 - count }
 {
-    if count == 0 {
-        return 1;
-    }
-    0
+    u64::from(count == 0)
 }
 
 // A product with a bit.
+#[tactic(auto, using(crate::proofs::Numbers::product_below))]
 fn gated(x: u64, bit: u64) -> u64
     requires { bit < 2 }
     ensures { result ≡ x * bit }

@@ -29,7 +29,7 @@ less_one : (j : ℕ) → suc j - 1 ≡ j
 less_one j = omega arith
 
 -- by the count of digits
-pub digits_by_lem : (f k n : ℕ) → IsDigitCount 10 1 n k → k ≤ f → last_digits 10 k n ≡ digits_by f n
+digits_by_lem : (f k n : ℕ) → IsDigitCount 10 1 n k → k ≤ f → last_digits 10 k n ≡ digits_by f n
 unfolding digits_by
 digits_by_lem zero zero n h p = absurd (omega arith)
 digits_by_lem zero (suc k) n h p = absurd (omega arith)
@@ -46,7 +46,7 @@ digits_by_lem (suc f) (suc (suc j)) n h p =
     rw (le-ltb n 10 t.1.1, lt-ltb (n % 10) 10 small) (ap (λ (x : List ℕ). x ++ ((48 + n % 10) ∷ [])) (digits_by_lem f (suc j) (n / 10) fewest (omega arith)))
 
 -- the digits are the text
-pub decimal_is : (k n : ℕ) → IsDigitCount 10 1 n k → k ≤ 20 → last_digits 10 k n ≡ decimal_text n
+decimal_is : (k n : ℕ) → IsDigitCount 10 1 n k → k ≤ 20 → last_digits 10 k n ≡ decimal_text n
 unfolding decimal_text
 decimal_is k n h p = digits_by_lem 20 k n h p
 
@@ -60,5 +60,5 @@ at_most k n false e h f =
     let low : 10 ^ (k - 1) ≤ n = f.2 (omega arith) in
     absurd (omega arith)
 
-pub fewest_20 : (k n : ℕ) → n < 18446744073709551616 → IsDigitCount 10 1 n k → k ≤ 20
-fewest_20 k n h f = at_most k n (leb k 20) refl h f
+pub digits_text : (k n : ℕ) → n < 18446744073709551616 → IsDigitCount 10 1 n k → last_digits 10 k n ≡ decimal_text n
+digits_text k n h f = decimal_is k n f (at_most k n (leb k 20) refl h f)

@@ -1,7 +1,5 @@
 pub mod Numbers
 pub mod Pieces
-pub mod Forms
 pub mod Digits
-pub mod Wrote
-pub mod Fields
+pub mod Written
 pub mod Computing

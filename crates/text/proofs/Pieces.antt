@@ -1,32 +1,47 @@
--- Laws of the pieces of a text and of its lines: a search byte by byte, a comparison byte by byte, the parts that the code cuts, and
--- the lines from an index on. Assumes nothing.
+-- Laws of the pieces of a text and of its lines: the search and the comparison that the library has, and the lines from an index on.
+-- Assumes nothing.
 use Prim.Native.Nat.{ℕ, suc, ◌+◌, ◌-◌, ◌≤◌, ◌<◌}
 use mathlib.Core.Path.{◌≡◌, refl, sym, ap, ◌∙◌}
-use mathlib.Core.Bool.{Bool, true, false, ◌&&◌}
+use mathlib.Core.Bool.{Bool, true, false, cond, not, ◌&&◌}
 use mathlib.Core.List.{List, [], ◌∷◌}
-use native.Mathlib.Nat.{add-zero, sub-zero}
-use native.Mathlib.Numerals.{add-one}
 use native.Mathlib.Omega.{arith}
-use borrow.Author.Tests.{eq-eqb, ne_eqb}
+use borrow.Author.Tests.{ltb-false}
 use lib.ListN.{length, drop, take, get_or, drop_of_length-le, length-drop}
 use lib.Seq.{drop-cons, take_all, drop-drop, drop-length}
-use lib.Dec.{eqb}
+use lib.Dec.{eqb, ltb}
+use lib.Pointwise.{pointwise}
+use Rattle.std.specs.Prelude.{Option, Some, None, unwrap_or}
+use Rattle.std.specs.List.{position_or_len}
 use Rattle.lists.specs.Lists.{same}
 use Rattle.text.specs.Pieces.{index_of, before, after}
 use Rattle.text.specs.Lines.{onto, lines}
 
--- one look at the byte at i: it is b, it is not, or the text has ended
-pub index_hit : (b : ℕ) (l : List ℕ) (i : ℕ) → i < length l → get_or l i 0 ≡ b → i + index_of b (drop i l) ≡ i
+-- the search of the library finds the same index
+index_position : (b : ℕ) (l : List ℕ) → position_or_len (λ x. eqb x b) l ≡ index_of b l
 unfolding index_of
-index_hit b l i h e = rw (drop-cons l i 0, eq-eqb _ _ e, add-zero)
+index_position b [] = refl
+index_position b (x ∷ l) = step (eqb x b) (index_position b l)
+  where
+    step : (t : Bool) → position_or_len (λ x. eqb x b) l ≡ index_of b l → cond (not t) (1 + position_or_len (λ x. eqb x b) l) 0 ≡ cond t 0 (suc (index_of b l))
+    step true h = refl
+    step false h = omega arith
 
-pub index_miss : (b : ℕ) (l : List ℕ) (i : ℕ) → i < length l → (get_or l i 0 ≡ b → ⊥) → i + index_of b (drop i l) ≡ (i + 1) + index_of b (drop (i + 1) l)
+pub index_le : (b : ℕ) (l : List ℕ) → index_of b l ≤ length l
 unfolding index_of
-index_miss b l i h e = rw (drop-cons l i 0, ne_eqb _ _ e, add-one i) (omega arith)
+index_le b [] = omega arith
+index_le b (x ∷ l) = let h = index_le b l in step (eqb x b) h
+  where
+    step : (t : Bool) → index_of b l ≤ length l → cond t 0 (suc (index_of b l)) ≤ suc (length l)
+    step true h = omega arith
+    step false h = omega arith
 
-pub index_end : (b : ℕ) (l : List ℕ) (i : ℕ) → length l ≤ i → i + index_of b (drop i l) ≡ i
-unfolding index_of
-index_end b l i h = rw (drop_of_length-le l h, add-zero)
+pub index_found : (b : ℕ) (l : List ℕ) (r : Option ℕ) → r ≡ cond (ltb (position_or_len (λ x. eqb x b) l) (length l)) (Some (position_or_len (λ x. eqb x b) l)) None
+    → unwrap_or r (length l) ≡ index_of b l
+index_found b l r e = rw (e, index_position b l) (step (ltb (index_of b l) (length l)) refl)
+  where
+    step : (t : Bool) → ltb (index_of b l) (length l) ≡ t → unwrap_or (cond t (Some (index_of b l)) None) (length l) ≡ index_of b l
+    step true h = refl
+    step false h = let m = index_le b l in let k = ltb-false (index_of b l) (length l) h in omega arith
 
 -- a text that is not empty is its first line and the lines after it
 first : (x : ℕ) (xs : List ℕ) (t : Bool) → eqb x 10 ≡ t → onto x (lines xs) ≡ (x ∷ before 10 xs) ∷ lines (after 10 xs)
@@ -46,43 +61,13 @@ pub and_false : (t : Bool) → (t && false) ≡ false
 and_false true = refl
 and_false false = refl
 
--- one look at the bytes at i of two texts
-pub same_turn : (a b : List ℕ) (i : ℕ) → i < length a → i < length b
-    → same (drop i a) (drop i b) ≡ (eqb (get_or a i 0) (get_or b i 0) && same (drop (i + 1) a) (drop (i + 1) b))
+-- `==` says the same
+pub same_pointwise : (a b : List ℕ) → same a b ≡ pointwise eqb a b
 unfolding same
-same_turn a b i h k = rw (add-one i, drop-cons a i 0, drop-cons b i 0)
-
-pub same_end : (a b : List ℕ) (i : ℕ) → length a ≤ i → length b ≤ i → same (drop i a) (drop i b) ≡ true
-unfolding same
-same_end a b i h k = rw (drop_of_length-le a h, drop_of_length-le b k)
-
--- texts of two lengths differ
-pub same_length : (a b : List ℕ) → (length a ≡ length b → ⊥) → same a b ≡ false
-unfolding same
-same_length [] [] h = absurd (h refl)
-same_length [] (y ∷ b) h = refl
-same_length (x ∷ a) [] h = refl
-same_length (x ∷ a) (y ∷ b) h = rw (same_length a b (λ e. h (ap suc e))) (and_false (eqb x y))
-
-pub same_stop : (a b : List ℕ) (i : ℕ) → i < length a → i < length b → (get_or a i 0 ≡ get_or b i 0 → ⊥) → same (drop i a) (drop i b) ≡ false
-same_stop a b i h k e = same_turn a b i h k ∙ ap (λ (t : Bool). t && same (drop (i + 1) a) (drop (i + 1) b)) (ne_eqb _ _ e)
-
-pub same_more : (a b : List ℕ) (i : ℕ) → i < length a → i < length b → get_or a i 0 ≡ get_or b i 0
-    → same (drop i a) (drop i b) ≡ same (drop (i + 1) a) (drop (i + 1) b)
-same_more a b i h k e = same_turn a b i h k ∙ ap (λ (t : Bool). t && same (drop (i + 1) a) (drop (i + 1) b)) (eq-eqb _ _ e)
-
--- the parts as the code cuts them
-pub head_is : (b : ℕ) (l : List ℕ) (e : ℕ) → e ≡ index_of b l → take (e - 0) l ≡ before b l
-unfolding before
-head_is b l e h = rw (sub-zero, h)
-
-pub tail_is : (b : ℕ) (l : List ℕ) (e : ℕ) → e ≡ index_of b l → take (length l - (e + 1)) (drop (e + 1) l) ≡ after b l
-unfolding after
-tail_is b l e h = take_all (length l - (e + 1)) (drop (e + 1) l) (simp length-drop (omega arith)) ∙ ap (λ (n : ℕ). drop (n + 1) l) h
-
-pub tail_none : (b : ℕ) (l : List ℕ) (e : ℕ) → e ≡ index_of b l → length l ≤ e → [] ≡ after b l
-unfolding after
-tail_none b l e h k = let q : length l ≤ index_of b l + 1 = omega arith in sym (drop_of_length-le l q)
+same_pointwise [] [] = refl
+same_pointwise [] (y ∷ b) = refl
+same_pointwise (x ∷ a) [] = refl
+same_pointwise (x ∷ a) (y ∷ b) = ap (λ (t : Bool). eqb x y && t) (same_pointwise a b)
 
 -- the lines from an index on
 pub lines_at : (l : List ℕ) (at : ℕ) → at < length l → lines (drop at l) ≡ before 10 (drop at l) ∷ lines (after 10 (drop at l))

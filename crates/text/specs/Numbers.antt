@@ -1,8 +1,6 @@
 -- Decimal numbers. Document 01: "A number is 1 to 20 digits, at most 2^64 − 1". Leading zeros count as digits and are allowed.
 -- Assumes nothing.
-use Rattle.std.specs.Prelude.{ℕ, ◌+◌, ◌*◌, ◌-◌, Bool, true, cond, ◌&&◌, List, [], ◌∷◌, length, ltb, leb}
-use Rattle.text.specs.declared.Parsed.{Parsed}
-use Rattle.text.specs.declared.Parsed.TheVariants.{Number, Bad}
+use Rattle.std.specs.Prelude.{ℕ, ◌+◌, ◌*◌, ◌-◌, Bool, true, cond, ◌&&◌, List, [], ◌∷◌, length, ltb, leb, Option, Some, None}
 
 -- 2^64
 abbrev pub TOP : ℕ
@@ -25,6 +23,6 @@ decimal_from v (b ∷ bs) = decimal_from (10 * v + (b - 48)) bs
 unfoldable pub is_number : List ℕ → Bool
 is_number l = leb 1 (length l) && (leb (length l) 20 && (all_digits l && ltb (decimal_from 0 l) TOP))
 
--- the number that a whole text is
-unfoldable pub number_of : List ℕ → Parsed
-number_of l = cond (is_number l) (Number (decimal_from 0 l)) Bad
+-- the number that a whole text is, if it is one
+unfoldable pub number_of : List ℕ → Option ℕ
+number_of l = cond (is_number l) (Some (decimal_from 0 l)) None

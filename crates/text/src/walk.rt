@@ -5,6 +5,7 @@ ghost use Rattle.text.specs.Pieces.{after};
 use crate::{NEWLINE, position};
 
 // The index after the line that starts at index `at`.
+#[tactic(auto, using(crate::proofs::Pieces::next_is, crate::proofs::Pieces::next_none))]
 pub fn next_line(text: &[u8], at: usize) -> usize
     requires { at < length text.now }
     ensures { (at < result) × (result ≤ length text.now) × (drop result text.now ≡ after 10 (drop at text.now)) }

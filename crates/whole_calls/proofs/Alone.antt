@@ -9,7 +9,7 @@ use native.Mathlib.Omega.{arith}
 use lib.ListN.{length}
 use Rattle.lists.specs.Lists.{eight_at, All}
 use Rattle.lists.proofs.Numbers.{eight_back}
-use Rattle.words.specs.Words.{wrap_sub, words}
+use Rattle.words.specs.Words.{wrap_sub}
 use Rattle.call.specs.Calls.{Call, Piece, Op}
 use Rattle.call.specs.Cuts.{PieceOk, CutCall, rest, is_last, cut_from, ops_of, Fits}
 use Rattle.call.proofs.Cuts.{fits_has_row}

@@ -4,9 +4,9 @@ use mathlib.Core.List.{List, map, flat_map}
 use Prim.Native.Nat.{ℕ, ◌*◌, ◌^◌, ◌≤◌, ◌<◌}
 use lib.Dec.{lit≤}
 use lib.ListN.{length, take}
+use Rattle.std.specs.Prelude.{Ok}
 use Rattle.lists.specs.Lists.{All}
 use Rattle.records.specs.Records.{LIMIT}
-use Rattle.records.specs.declared.TableAnswer.TheVariants.{Made}
 use Rattle.call.specs.Ops.{op_record}
 use Rattle.call.specs.Flat.{call_numbers}
 use Rattle.call.specs.Cuts.{CutCall, ops_of, Fits, calls_of}
@@ -25,24 +25,24 @@ use Rattle.whole_calls.proofs.Refusals.{maker_refuses, refused_leaves, refused_a
 -- the rows that the maker writes of the records of calls that fit pass, and are read back as these records and calls
 pub made_passes : (gap : ℕ) → gap < 2 ^ 32 → (limit : ℕ) → limit ≤ 2 ^ 63 → (ks : List CutCall) → All (Fits gap) ks
     → (table : List ℕ) (rows : ℕ) → let records = flat_map op_record (ops_of ks) in
-    copy_answer limit records (length table) ≡ Made rows
-    → let l = take (COLUMNS * rows) (copy_after records (Made rows) table) in
+    copy_answer limit records (length table) ≡ Ok rows
+    → let l = take (COLUMNS * rows) (copy_after records (Ok rows) table) in
     Passes gap l × ((ops calls : List ℕ) → ReadsBack gap l records (flat_map call_numbers (calls_of ks)) ops calls)
 made_passes gap g limit small ks fits table rows made =
-    let l = take (COLUMNS * rows) (copy_after (flat_map op_record (ops_of ks)) (Made rows) table) in
+    let l = take (COLUMNS * rows) (copy_after (flat_map op_record (ops_of ks)) (Ok rows) table) in
     let w = written_calls gap limit small ks fits table rows made g in
     (calls_passes gap g l ks w, reads_back gap g l ks w)
 
 made : (gap : ℕ) → gap < 2 ^ 32 → (tries : List Try) → All Typed tries → (table : List ℕ) (rows : ℕ)
     → let records = accepted_ops (under gap) tries in
-    copy_answer LIMIT records (length table) ≡ Made rows
-    → let l = take (COLUMNS * rows) (copy_after records (Made rows) table) in
+    copy_answer LIMIT records (length table) ≡ Ok rows
+    → let l = take (COLUMNS * rows) (copy_after records (Ok rows) table) in
     Passes gap l × ((ops calls : List ℕ) → ReadsBack gap l records (accepted_calls (under gap) tries) ops calls)
 made gap g tries typed table rows =
     subst₂
     (λ (records handed : List ℕ).
-    copy_answer LIMIT records (length table) ≡ Made rows
-    → let l = take (COLUMNS * rows) (copy_after records (Made rows) table) in
+    copy_answer LIMIT records (length table) ≡ Ok rows
+    → let l = take (COLUMNS * rows) (copy_after records (Ok rows) table) in
     Passes gap l × ((ops calls : List ℕ) → ReadsBack gap l records handed ops calls))
     (sym (tries_wrote gap tries typed))
     (sym (tries_handed gap tries))

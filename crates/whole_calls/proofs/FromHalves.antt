@@ -11,6 +11,7 @@ use native.Mathlib.Omega.{arith}
 use borrow.Author.Tests.{eqb-true, eqb-false}
 use lib.Dec.{lit≤, eqb}
 use lib.ListN.{length, get_or}
+use Rattle.std.specs.Prelude.{Ok}
 use Rattle.lists.specs.Lists.{at, All}
 use Rattle.records.proofs.RecordList.{records_whole}
 use Rattle.words.specs.Words.{bit}
@@ -21,7 +22,6 @@ use Rattle.copy_row.specs.Rows.{wrapped, row_of, table_row}
 use Rattle.copy_row.proofs.Rows.{row_wide}
 use Rattle.copy_residues.specs.Residues.{residue, RESIDUES}
 use Rattle.copy_residues.specs.RowCheck.{row_fault}
-use Rattle.copy_residues.specs.declared.faults.RowFault.TheVariants.{Fine}
 use Rattle.copy_meaning.specs.Steps.{LiveStep, RowStep}
 use Rattle.copy_meaning.specs.ReadRow.{op_at}
 use Rattle.copy_meaning.specs.RowIff.{BesidesDstRes, DependsOnDstRes, CallRow}
@@ -148,7 +148,7 @@ module _ (half : RowHalf) (gap : ℕ) (g : gap < 2 ^ 32) where
                 differs = λ same. eqb-false _ _ e (same ∙ clean i h);
               }))
 
-      fine : row_fault gap row ≡ Fine
+      fine : row_fault gap row ≡ Ok tt
       fine = (half.judges gap row call.wide).1 (call.range, zeroes)
 
       mu : at row MU ≡ 1

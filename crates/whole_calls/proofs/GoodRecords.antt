@@ -9,11 +9,12 @@ use native.Mathlib.Omega.{arith}
 use borrow.Author.Tests.{le-ltb}
 use lib.Dec.{ltb, leb}
 use lib.ListN.{length}
+use Rattle.std.specs.Prelude.{Ok, Err}
 use Rattle.lists.specs.Lists.{All}
 use Rattle.records.specs.Records.{record_count, first_bad}
 use Rattle.records.specs.RowCount.{row_count}
 use Rattle.records.specs.Table.{table_answer}
-use Rattle.records.specs.declared.TableAnswer.TheVariants.{Made, TooManyRecords, BufferShort}
+use Rattle.records.specs.declared.TableRefusal.TheVariants.{TooManyRecords, BufferShort}
 use Rattle.records.proofs.Records.{none_bad}
 use Rattle.records.proofs.RecordList.{joined_count, records_joined, each_record}
 use Rattle.call.specs.Calls.{Op}
@@ -64,7 +65,7 @@ module _ (gap : ℕ) where
   -- what the maker answers: too many, or a table too short, or as many rows as there should be
   pub maker_answer : (limit room : ℕ) (os : List Op) → All (LiveStep gap) os
       → copy_answer limit (flat_map op_record os) room
-      ≡ cond (ltb limit (length os)) TooManyRecords (cond (leb (COLUMNS * row_count (length os)) room) (Made (row_count (length os))) BufferShort)
+      ≡ cond (ltb limit (length os)) (Err TooManyRecords) (cond (leb (COLUMNS * row_count (length os)) room) (Ok (row_count (length os))) (Err BufferShort))
   unfolding copy_answer table_answer
   maker_answer limit room os s =
       let n = records_count_lem os s in

@@ -3,16 +3,15 @@ use mathlib.Core.Path.{◌≡◌}
 use mathlib.Core.List.{List, ◌++◌, map}
 use Prim.Native.Nat.{ℕ, ◌%◌, ◌/◌, ◌^◌, ◌<◌}
 use lib.ListN.{length}
+use Rattle.std.specs.Prelude.{Ok}
 use Rattle.lists.specs.Lists.{All, at}
 use Rattle.call.specs.Cuts.{CutCall, ops_of, Fits}
 use Rattle.copy_row.specs.Columns.{MU, COLUMNS}
 use Rattle.copy_row.specs.Rows.{table_row}
 use Rattle.copy_residues.specs.RowCheck.{row_fault}
-use Rattle.copy_residues.specs.declared.faults.RowFault.TheVariants.{Fine}
 use Rattle.copy_meaning.proofs.Check.{fine_clean, clean_fine}
 use Rattle.copy_meaning.proofs.RowIff.{row_iff}
 use Rattle.chain.specs.Chain.{table_rows, chain_answer}
-use Rattle.chain.specs.declared.ChainAnswer.TheVariants.{Passed}
 use Rattle.chain.proofs.Passed.{passing, passing_answer}
 use Rattle.whole_calls.specs.Demand.{Passes, DeadRow, WholeCalls}
 use Rattle.whole_calls.specs.Halves.{RowHalf, ChainProperty, Halves}
@@ -40,11 +39,11 @@ halves = record { row_half = row_half; link_half = link_half; both = both_halves
 
 -- What the rest of demand 3 takes from them
 
-pub counts : (gap : ℕ) (l : List ℕ) → Passes gap l → chain_answer gap l ≡ Passed (length l / COLUMNS)
+pub counts : (gap : ℕ) (l : List ℕ) → Passes gap l → chain_answer gap l ≡ Ok (length l / COLUMNS)
 counts gap l e = passing_answer gap l (passing gap l e)
 
 module _ (gap : ℕ) (g : gap < 2 ^ 32) where
-  pub dead_row_lem : (row : List ℕ) → length row ≡ COLUMNS → row_fault gap row ≡ Fine → at row MU ≡ 0 → DeadRow gap row
+  pub dead_row_lem : (row : List ℕ) → length row ≡ COLUMNS → row_fault gap row ≡ Ok tt → at row MU ≡ 0 → DeadRow gap row
   dead_row_lem row wide fine = from.dead_row_lem row_half gap g row (record { wide = wide; fine = fine })
 
   pub all_still : (rows : List (List ℕ)) → All (DeadRow gap) rows → All Still rows
@@ -61,5 +60,5 @@ module _ (gap : ℕ) (g : gap < 2 ^ 32) where
     pub calls_passes : Passes gap l
     calls_passes = (chain_property gap g l).1 (ks, w)
 
-    pub calls_pass : chain_answer gap l ≡ Passed (length l / COLUMNS)
+    pub calls_pass : chain_answer gap l ≡ Ok (length l / COLUMNS)
     calls_pass = counts gap l calls_passes

@@ -10,6 +10,7 @@ use Prim.Native.Nat.{ℕ, zero, suc, ◌+◌, ◌*◌, ◌^◌, ◌<◌}
 use borrow.Author.Tests.{eqb-true, eq-eqb}
 use lib.Dec.{eqb}
 use lib.ListN.{get_or}
+use Rattle.std.specs.Prelude.{Result, Ok, Err}
 use Rattle.lists.specs.Lists.{at, All, same}
 use Rattle.lists.proofs.Same.{same_eq, eq_same}
 use Rattle.words.specs.Words.{bit}
@@ -22,19 +23,18 @@ use Rattle.copy_meaning.proofs.RowIff.{row_iff}
 use Rattle.copy_meaning.proofs.ReadBack.{mu_back, call_back, next_back}
 use Rattle.call_chain.specs.OpChain.{unless_end, next}
 use Rattle.chain.specs.Link.{Before, closed, unended, dead, shown, handed_on, live_linked, dead_linked, linked, before_of, Unbroken}
+use Rattle.chain.specs.declared.LinkRefusal.{LinkRefusal}
 use Rattle.chain.specs.declared.LinkRefusal.TheVariants.{Broken}
-use Rattle.chain.specs.declared.link.LinkFault.{LinkFault}
-use Rattle.chain.specs.declared.link.LinkFault.TheVariants.{Linked, Unlinked}
 use Rattle.whole_calls.specs.Halves.{PassedRow, compared, Follows, Links, LinkedRows, LinkHalf}
 
 abbrev Still : List ℕ → Type 0
 Still row = at row MU ≡ 0
 
-abbrev linked_fault : LinkFault → Bool
-linked_fault Linked = true
-linked_fault (Unlinked why) = false
+abbrev linked_fault : Result (Unit {0}) LinkRefusal → Bool
+linked_fault (Ok linked) = true
+linked_fault (Err why) = false
 
-link_true : (t : Bool) → cond t Linked (Unlinked Broken) ≡ Linked → t ≡ true
+link_true : (t : Bool) → ◌≡◌ {A = Result (Unit {0}) LinkRefusal} (cond t (Ok tt) (Err Broken)) (Ok tt) → t ≡ true
 link_true true e = refl
 link_true false e = absurd (false≢true (ap linked_fault e))
 

@@ -8,6 +8,7 @@ use Prim.Native.Nat.{ℕ, zero, suc, ◌-◌, ◌*◌, ◌^◌, ◌≤◌, ◌<�
 use native.Mathlib.Omega.{arith}
 use lib.Dec.{ltb, leb-suc-suc}
 use lib.ListN.{length, take, replicate, length-append}
+use Rattle.std.specs.Prelude.{Ok}
 use lib.Seq.{take_at, length-take-le}
 use Rattle.lists.specs.Lists.{All, listed}
 use Rattle.lists.proofs.All.{all_replicate}
@@ -16,7 +17,6 @@ use Rattle.lists.proofs.Flat.{row_within}
 use Rattle.lists.proofs.Listed.{listed_same}
 use Rattle.records.specs.Records.{record_count, record_at, first_bad, records_in}
 use Rattle.records.specs.Table.{row_at}
-use Rattle.records.specs.declared.TableAnswer.TheVariants.{Made}
 use Rattle.records.proofs.Records.{record_count_lem}
 use Rattle.records.proofs.RowCount.{row_count_covers}
 use Rattle.records.proofs.Table.{MadeFacts}
@@ -93,15 +93,15 @@ padding_dead : (gap : ℕ) → gap < 2 ^ 32 → (n : ℕ) → All (DeadRow gap) 
 unfolding padding_row
 padding_dead gap g n = all_replicate (DeadRow gap) n padding_row (dead_row_lem gap g padding_row refl (padding_passes gap g) refl)
 
--- The rows written: the maker takes `limit` records, and answers `Made rows`
+-- The rows written: the maker takes `limit` records, and answers `Ok rows`
 
 module _ (gap limit : ℕ) (small : limit ≤ 2 ^ 63) (ks : List CutCall) (fits : All (Fits gap) ks) (table : List ℕ) (rows : ℕ)
-    (made : copy_answer limit (flat_map op_record (ops_of ks)) (length table) ≡ Made rows) where
+    (made : copy_answer limit (flat_map op_record (ops_of ks)) (length table) ≡ Ok rows) where
   abbrev records : List ℕ
   records = flat_map op_record (ops_of ks)
 
   abbrev written : List ℕ
-  written = take (COLUMNS * rows) (copy_after records (Made rows) table)
+  written = take (COLUMNS * rows) (copy_after records (Ok rows) table)
 
   live : All (LiveStep gap) (ops_of ks)
   live = steps gap none (ops_of ks) (chain gap ks fits)
@@ -116,11 +116,11 @@ module _ (gap limit : ℕ) (small : limit ≤ 2 ^ 63) (ks : List CutCall) (fits 
 
   written_length : length written ≡ COLUMNS * rows
   written_length =
-      length-take-le (COLUMNS * rows) (copy_after records (Made rows) table) (omega (arith, facts.fits, after_length records (Made rows) table))
+      length-take-le (COLUMNS * rows) (copy_after records (Ok rows) table) (omega (arith, facts.fits, after_length records (Ok rows) table))
 
   written_row : (k : ℕ) → k < rows → record_at COLUMNS written k ≡ copy_row_at records k
   written_row k h =
-      run_taken COLUMNS (COLUMNS * k) (COLUMNS * rows) (copy_after records (Made rows) table) (row_within COLUMNS k rows h)
+      run_taken COLUMNS (COLUMNS * k) (COLUMNS * rows) (copy_after records (Ok rows) table) (row_within COLUMNS k rows h)
       ∙ made_row records table rows k facts.fits h
 
   written_rows : table_rows written ≡ map table_row (ops_of ks) ++ replicate (rows - length (ops_of ks)) padding_row

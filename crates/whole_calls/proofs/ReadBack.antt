@@ -10,6 +10,7 @@ use native.Mathlib.Omega.{arith}
 use borrow.Author.Tests.{le-leb, lt-leb, eq-eqb}
 use lib.Dec.{eqb, leb}
 use lib.ListN.{length}
+use Rattle.std.specs.Prelude.{Ok, Err}
 use Rattle.lists.specs.Lists.{store, All, kept}
 use Rattle.call.specs.Calls.{Call, Op}
 use Rattle.call.specs.Ops.{op_record, OP_WIDTH}
@@ -23,12 +24,10 @@ use Rattle.copy_meaning.proofs.ReadBack.{mu_back, first_back, call_back, op_back
 use Rattle.call_chain.specs.OpChain.{if_first, firsts}
 use Rattle.call_chain.proofs.Chained.{chain}
 use Rattle.call_chain.proofs.Group.{firsts_are}
-use Rattle.chain.specs.Chain.{chain_answer, chain_numbers, table_rows}
-use Rattle.chain.specs.declared.ChainAnswer.{ChainAnswer}
-use Rattle.chain.specs.declared.ChainAnswer.TheVariants.{Passed, Refused}
+use Rattle.chain.specs.Chain.{ChainAnswer, chain_answer, chain_numbers, table_rows}
 use Rattle.chain.proofs.Passed.{refusal_numbered}
-use Rattle.read_back.specs.ReadBack.{read_ops, read_calls, room_answer, on_chain, read_back_answer, ops_after, calls_after, read_back_numbers, opening_rows, live_rows}
-use Rattle.read_back.specs.declared.ReadBackAnswer.TheVariants.{Read, BufferShort}
+use Rattle.read_back.specs.ReadBack.{ReadBackAnswer, read_ops, read_calls, read_counts, room_answer, on_chain, read_back_answer, ops_after, calls_after, read_back_numbers, opening_rows, live_rows}
+use Rattle.read_back.specs.declared.ReadBackRefusal.TheVariants.{BufferShort}
 use Rattle.read_back.specs.Inner.{rows_read, numbers_read}
 use Rattle.read_back.proofs.Walk.{numbers_length}
 use Rattle.whole_calls.specs.Demand.{Passes, WholeCalls, ReadsBack}
@@ -102,8 +101,8 @@ module _ (gap : ℕ) (g : gap < 2 ^ 32) (l : List ℕ) (ks : List CutCall) (w : 
     rooms : read_back_answer gap l (length ops) (length calls)
         ≡ cond
         (leb (length records) (length ops) && leb (length handed) (length calls))
-        (Read (length records / OP_WIDTH) (length handed / CALL_WIDTH))
-        BufferShort
+        (Ok (record { ops = length records / OP_WIDTH; calls = length handed / CALL_WIDTH }))
+        (Err BufferShort)
     unfolding read_back_answer room_answer
     rooms =
         let n : length (live_rows (table_rows l)) ≡ length records / OP_WIDTH = omega (arith, ops_length, ap length read_ops_lem) in
@@ -115,7 +114,7 @@ module _ (gap : ℕ) (g : gap < 2 ^ 32) (l : List ℕ) (ks : List CutCall) (w : 
     reads_back =
         record {
           reads = λ a b.
-              let answer : read_back_answer gap l (length ops) (length calls) ≡ Read (length records / OP_WIDTH) (length handed / CALL_WIDTH) =
+              let answer : read_back_answer gap l (length ops) (length calls) ≡ Ok (record { ops = length records / OP_WIDTH; calls = length handed / CALL_WIDTH }) =
               rooms ∙ rw (le-leb _ _ a, le-leb _ _ b) refl in (
                 answer,
                 ap (λ r. ops_after r l ops) answer ∙ ap (store ops 0) read_ops_lem,
@@ -125,11 +124,11 @@ module _ (gap : ℕ) (g : gap < 2 ^ 32) (l : List ℕ) (ks : List CutCall) (w : 
         }
       where
         go : (length ops < length records) ⊎ (length calls < length handed)
-            → cond
+            → cond {A = ReadBackAnswer}
             (leb (length records) (length ops) && leb (length handed) (length calls))
-            (Read (length records / OP_WIDTH) (length handed / CALL_WIDTH))
-            BufferShort
-            ≡ BufferShort
+            (Ok (record { ops = length records / OP_WIDTH; calls = length handed / CALL_WIDTH }))
+            (Err BufferShort)
+            ≡ Err BufferShort
         go (inl h) = rw (lt-leb _ _ h) refl
         go (inr h) = rw (lt-leb _ _ h, and-false) refl
 
@@ -140,12 +139,12 @@ pub only_nine : (gap : ℕ) (l : List ℕ) → Passes gap l → (room_ops calls_
 unfolding read_back_answer room_answer
 only_nine gap l e room_ops calls_room = go (chain_answer gap l) e
   where
-    room : (t : Bool) → let answer = cond t (Read (length (live_rows (table_rows l))) (length (opening_rows (table_rows l)))) BufferShort in
+    room : (t : Bool) → let answer = cond t (Ok (read_counts l)) (Err BufferShort) in
         ((read_back_numbers answer).answer.number ≡ 0) ⊎ ((read_back_numbers answer).answer.number ≡ 9)
     room true = inl refl
     room false = inr refl
 
     go : (v : ChainAnswer) → (chain_numbers v).number ≡ 0
         → let number = (read_back_numbers (on_chain v (room_answer l room_ops calls_room))).answer.number in (number ≡ 0) ⊎ (number ≡ 9)
-    go (Passed rows) e = room (leb (length (read_ops l)) room_ops && leb (length (read_calls l)) calls_room)
-    go (Refused why) e = absurd (false≢true (sym (refusal_numbered why) ∙ eq-eqb _ _ e))
+    go (Ok rows) e = room (leb (length (read_ops l)) room_ops && leb (length (read_calls l)) calls_room)
+    go (Err why) e = absurd (false≢true (sym (refusal_numbered why) ∙ eq-eqb _ _ e))

@@ -9,12 +9,12 @@ use Prim.Native.Nat.{ℕ, ◌*◌, ◌^◌, ◌<◌}
 use borrow.Author.Tests.{ne_eqb}
 use lib.Dec.{eqb, ltb, leb}
 use lib.ListN.{length}
+use Rattle.std.specs.Prelude.{Ok, Err}
 use Rattle.lists.specs.Lists.{All}
 use Rattle.records.specs.Records.{LIMIT}
 use Rattle.records.specs.RowCount.{row_count}
-use Rattle.records.specs.Table.{table_numbers}
-use Rattle.records.specs.declared.TableAnswer.{TableAnswer}
-use Rattle.records.specs.declared.TableAnswer.TheVariants.{Made, TooManyRecords, BufferShort}
+use Rattle.records.specs.Table.{TableAnswer, table_numbers}
+use Rattle.records.specs.declared.TableRefusal.TheVariants.{TooManyRecords, BufferShort}
 use Rattle.call.specs.Cuts.{CutCall, ops_of}
 use Rattle.expansion.specs.Tries.{under, Try, Typed}
 use Rattle.expansion.specs.Refusals.{answered, Accepts}
@@ -35,7 +35,7 @@ use Rattle.whole_calls.proofs.Accepted.{cut_try, tries_fit, tries_wrote}
 abbrev OnlyEightOrNine : ℕ → Type 0
 OnlyEightOrNine number = (number ≡ 0) ⊎ (number ≡ 8) ⊎ (number ≡ 9)
 
-three_answers : (over fits : Bool) (rows : ℕ) (answer : TableAnswer) → answer ≡ cond over TooManyRecords (cond fits (Made rows) BufferShort)
+three_answers : (over fits : Bool) (rows : ℕ) (answer : TableAnswer) → answer ≡ cond over (Err TooManyRecords) (cond fits (Ok rows) (Err BufferShort))
     → OnlyEightOrNine (table_numbers 8 answer).number
 three_answers true fits rows answer e = rw e (inr (inl refl))
 three_answers false true rows answer e = rw e (inl refl)

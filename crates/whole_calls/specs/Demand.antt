@@ -1,12 +1,11 @@
 -- Demand 3, whole: "No sequence of rows can pass the chain check and be anything but whole calls." The words in quotes are the demand's
 -- and document 01's; each stands above the line that states it, and `Demand3` is the theorem. It speaks of the definitions that the
 -- contracts of the expansion, the copy table's maker, the chain check and read-back cite. Assumes nothing.
-use Rattle.std.specs.Prelude.{◌≡◌, ◌⊎◌, ◌↔◌, ℕ, ◌*◌, ◌/◌, ◌%◌, ◌^◌, ◌≤◌, ◌<◌, length, take}
+use Rattle.std.specs.Prelude.{◌≡◌, ◌⊎◌, ◌↔◌, ℕ, ◌*◌, ◌/◌, ◌%◌, ◌^◌, ◌≤◌, ◌<◌, length, take, Ok, Err}
 use mathlib.Core.List.{List, [], ◌∷◌, ◌++◌, flat_map}
 use Rattle.lists.specs.Lists.{store, at, All}
 use Rattle.records.specs.Records.{LIMIT}
 use Rattle.records.specs.Table.{table_numbers}
-use Rattle.records.specs.declared.TableAnswer.TheVariants.{Made}
 use Rattle.call.specs.Calls.{Piece}
 use Rattle.call.specs.Ops.{op_record, OP_WIDTH}
 use Rattle.call.specs.Flat.{CALL_WIDTH, call_numbers}
@@ -19,9 +18,8 @@ use Rattle.copy_row.specs.Trace.{copy_answer, copy_after}
 use Rattle.copy_residues.specs.Residues.{residue, RESIDUES}
 use Rattle.copy_meaning.specs.RowIff.{InRange, CallRow}
 use Rattle.chain.specs.Chain.{table_rows, chain_answer, chain_numbers}
-use Rattle.chain.specs.declared.ChainAnswer.TheVariants.{Passed}
 use Rattle.read_back.specs.ReadBack.{live_rows, read_back_answer, ops_after, calls_after, read_back_numbers}
-use Rattle.read_back.specs.declared.ReadBackAnswer.TheVariants.{Read, BufferShort}
+use Rattle.read_back.specs.declared.ReadBackRefusal.TheVariants.{BufferShort}
 use Rattle.calls_in_turn.specs.Accepted.{accepted_of, accepted_ops, accepted_calls}
 
 -- "A list passes under a gap when the chain check, given both, refuses nothing"
@@ -59,12 +57,12 @@ pub record ReadsBack (gap : ℕ) (l records handed ops calls : List ℕ) : Type 
   -- where both buffers are long enough, it writes the records and the calls, and counts them
   pub reads : length records ≤ length ops → length handed ≤ length calls
       → let answer = read_back_answer gap l (length ops) (length calls) in
-      (answer ≡ Read (length records / OP_WIDTH) (length handed / CALL_WIDTH))
+      (answer ≡ Ok (record { ops = length records / OP_WIDTH; calls = length handed / CALL_WIDTH }))
       × (ops_after answer l ops ≡ store ops 0 records)
       × (calls_after answer l calls ≡ store calls 0 handed)
   -- otherwise it refuses with 9
   pub short : (length ops < length records) ⊎ (length calls < length handed)
-      → read_back_answer gap l (length ops) (length calls) ≡ BufferShort
+      → read_back_answer gap l (length ops) (length calls) ≡ Err BufferShort
 
 -- any call, widths and value bytes: the call's numbers fit their types, there is a row, and each row has a width of 0 to 255 and eight
 -- values. It need not be sound, and the widths need not be 1 or 8 nor add up
@@ -82,7 +80,7 @@ pub record Demand3 : Type 0 where
   -- numbers: one that is not rows of 41 does not pass
   pub exactly : (gap : ℕ) → gap < 2 ^ 32 → (l : List ℕ) → Passes gap l ↔ ((ks : List CutCall) × WholeCalls gap l ks)
   -- the check then answers how many rows it has seen: all
-  pub counts : (gap : ℕ) (l : List ℕ) → Passes gap l → chain_answer gap l ≡ Passed (length l / COLUMNS)
+  pub counts : (gap : ℕ) (l : List ℕ) → Passes gap l → chain_answer gap l ≡ Ok (length l / COLUMNS)
   -- "Reading it back gives those calls, widths and value bytes": a record of each row, with the call as it remains there, the row's
   -- width and its value bytes, and each call as a whole
   pub reads : (gap : ℕ) → gap < 2 ^ 32 → (l : List ℕ) (ks : List CutCall) → WholeCalls gap l ks
@@ -98,8 +96,8 @@ pub record Demand3 : Type 0 where
   -- with the widths and value bytes of their expansion." Document 01: "Where it refuses nothing, the rows written pass under that gap."
   pub made : (gap : ℕ) → gap < 2 ^ 32 → (tries : List Try) → All Typed tries → (table : List ℕ) (rows : ℕ)
       → let records = accepted_ops (under gap) tries in
-      copy_answer LIMIT records (length table) ≡ Made rows
-      → let l = take (COLUMNS * rows) (copy_after records (Made rows) table) in
+      copy_answer LIMIT records (length table) ≡ Ok rows
+      → let l = take (COLUMNS * rows) (copy_after records (Ok rows) table) in
       Passes gap l × ((ops calls : List ℕ) → ReadsBack gap l records (accepted_calls (under gap) tries) ops calls)
   -- the maker can refuse these records with 8 or 9 alone, whatever window each call found
   pub maker_refuses : (gap : ℕ) → gap < 2 ^ 32 → (tries : List Try) → All Typed tries → (room : ℕ)

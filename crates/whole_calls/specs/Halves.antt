@@ -1,7 +1,7 @@
 -- The chain property out of its two halves. Document 02: "The chain property is now a consequence of one statement about each half."
 -- `RowHalf` speaks of the row check alone and `LinkHalf` of the link check alone, over rows that passed; `FromHalves` takes both and gives
 -- demand 3's 'exactly'. Assumes nothing.
-use Rattle.std.specs.Prelude.{◌≡◌, ◌↔◌, List, [], ◌∷◌, ◌++◌, map, ℕ, ◌%◌, ◌^◌, ◌<◌, eqb, length}
+use Rattle.std.specs.Prelude.{◌≡◌, ◌↔◌, List, [], ◌∷◌, ◌++◌, map, ℕ, ◌%◌, ◌^◌, ◌<◌, eqb, length, Ok}
 use Rattle.std.proofs.Math.Option.{Option, none, some}
 use Rattle.lists.specs.Lists.{at, All}
 use Rattle.words.specs.Words.{bit}
@@ -11,7 +11,6 @@ use Rattle.copy_row.specs.Columns.{MU, COLUMNS}
 use Rattle.copy_row.specs.Rows.{table_row}
 use Rattle.copy_residues.specs.Residues.{residue, RESIDUES}
 use Rattle.copy_residues.specs.RowCheck.{row_fault}
-use Rattle.copy_residues.specs.declared.faults.RowFault.TheVariants.{Fine}
 use Rattle.copy_meaning.specs.ReadRow.{op_at}
 use Rattle.copy_meaning.specs.RowIff.{RowIff, InRange}
 use Rattle.call_chain.specs.OpChain.{next}
@@ -22,14 +21,14 @@ use Rattle.whole_calls.specs.Demand.{Passes, WholeCalls}
 -- a row of 41 numbers that the row check lets pass
 pub record PassedRow (gap : ℕ) (row : List ℕ) : Type 0 where
   pub wide : length row ≡ COLUMNS
-  pub fine : row_fault gap row ≡ Fine
+  pub fine : row_fault gap row ≡ Ok tt
 
 -- The row check: what a row that passes says
 
 pub record RowHalf : Type 0 where
   -- it passes exactly if it is in range and has 40 zero residues
   pub judges : (gap : ℕ) (row : List ℕ) → length row ≡ COLUMNS
-      → (row_fault gap row ≡ Fine) ↔ (InRange row × ((i : ℕ) → i < RESIDUES → residue gap row i ≡ 0))
+      → (row_fault gap row ≡ Ok tt) ↔ (InRange row × ((i : ℕ) → i < RESIDUES → residue gap row i ≡ 0))
   -- and exactly if it is the row of the record read off it, which meets the plain-number conditions, live or dead
   pub says : RowIff
 

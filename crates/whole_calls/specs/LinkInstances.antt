@@ -1,12 +1,10 @@
 -- Lists of rows that each pass alone, broken at one part of the link each: what the link check refuses and the row check cannot see. The
 -- gap is 8. Assumes nothing.
-use Rattle.std.specs.Prelude.{◌≡◌, List, ◌++◌, ℕ}
+use Rattle.std.specs.Prelude.{◌≡◌, List, ◌++◌, ℕ, Ok, Err}
 use Rattle.call.specs.Instances.{wide, narrow}
 use Rattle.copy_row.specs.Rows.{table_row, padding_row}
 use Rattle.copy_residues.specs.RowCheck.{row_fault}
-use Rattle.copy_residues.specs.declared.faults.RowFault.TheVariants.{Fine}
 use Rattle.chain.specs.Chain.{chain_answer}
-use Rattle.chain.specs.declared.ChainAnswer.TheVariants.{Passed, Refused}
 use Rattle.chain.specs.declared.ChainRefusal.TheVariants.{Link}
 use Rattle.chain.specs.declared.LinkRefusal.TheVariants.{Broken, NotEnded}
 
@@ -28,12 +26,12 @@ eight_more = table_row (record { call = record { kind = 0; stamp = 4; src = 8; d
 
 -- a row that passes alone and may not follow this one
 pub record Breaks (previous row : List ℕ) : Type 0 where
-  pub before : row_fault 8 previous ≡ Fine
-  pub alone : row_fault 8 row ≡ Fine
-  pub refused : chain_answer 8 (previous ++ row) ≡ Refused (Link 1 Broken)
+  pub before : row_fault 8 previous ≡ Ok tt
+  pub alone : row_fault 8 row ≡ Ok tt
+  pub refused : chain_answer 8 (previous ++ row) ≡ Err (Link 1 Broken)
 
 pub record LinkInstances : Type 0 where
-  pub linked : chain_answer 8 (opening ++ second) ≡ Passed 2
+  pub linked : chain_answer 8 (opening ++ second) ≡ Ok 2
   -- each part of the link in turn: FIRST, the timestamp, IS_SET, IS_WRITE, SRC, DST, COUNT
   pub first : Breaks opening (byte_row 1 0 4 8 16)
   pub stamp : Breaks opening (byte_row 0 0 5 8 16)
@@ -47,5 +45,5 @@ pub record LinkInstances : Type 0 where
   pub dead_after_live : Breaks opening padding_row
   pub live_after_dead : Breaks padding_row (byte_row 1 0 4 8 16)
   -- no FIRST at the top of the list, and no END at its end
-  pub top : chain_answer 8 second ≡ Refused (Link 0 Broken)
-  pub end : chain_answer 8 opening ≡ Refused (Link 1 NotEnded)
+  pub top : chain_answer 8 second ≡ Err (Link 0 Broken)
+  pub end : chain_answer 8 opening ≡ Err (Link 1 NotEnded)

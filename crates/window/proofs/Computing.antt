@@ -1,7 +1,7 @@
 -- For what holds by computing: to unfold `computing` is to unfold every definition here and below that such an example runs through.
 -- Assumes nothing.
-use Rattle.window.specs.Window.{cells_at, write_bytes, write_stamps}
+use Rattle.window.specs.Window.{eight_cells, write_bytes, write_stamps}
 
 unfoldable pub computing : Unit {0}
-unfolding cells_at write_bytes write_stamps
+unfolding eight_cells write_bytes write_stamps
 computing = tt

@@ -1,4 +1,4 @@
-pub mod Window
+pub mod WindowLaws
 pub mod SingleCells
 pub mod Bytes
 pub mod Computing

@@ -6,7 +6,7 @@ use native.Mathlib.Omega.{arith}
 use lib.ListN.{length, take, drop, get_or, replicate, length-replicate}
 use lib.Seq.{get_or-take, get_or-drop, length-take-le}
 use Rattle.lists.proofs.Store.{store_below, store_above, store_inside}
-use Rattle.window.specs.Window.{cells_at, write_bytes, write_stamps}
+use Rattle.window.specs.Window.{eight_cells, cells_at, write_bytes, write_stamps}
 
 -- Cells read
 
@@ -18,7 +18,7 @@ padded (x ∷ xs) n zero = refl
 padded (x ∷ xs) n (suc j) = padded xs n j
 
 pub cells_at_lem : (l : List ℕ) (a w j : ℕ) → j < w → w ≤ 8 → get_or (cells_at l a w) j 0 ≡ get_or l (a + j) 0
-unfolding cells_at
+unfolding eight_cells
 cells_at_lem l a w j h wide =
     get_or-take 8 (take w (drop a l) ++ replicate 8 0) j 0 (omega arith)
     ∙ padded (take w (drop a l)) 8 j

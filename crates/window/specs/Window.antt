@@ -12,9 +12,13 @@ pub record Window : Type 0 where
 abbrev pub window_of : List ℕ → List ℕ → Window
 window_of bytes stamps = record { bytes = bytes; stamps = stamps }
 
--- what w cells from cell a on have in the list l of bytes or of stamps, and zeros to eight (`read_bytes`)
-unfoldable pub cells_at : List ℕ → ℕ → ℕ → List ℕ
-cells_at l a w = take 8 (take w (drop a l) ++ replicate 8 0)
+-- what w cells from cell a on have in the list l, and `nothing` to eight
+unfoldable pub eight_cells : {A : Type 0} → A → List A → ℕ → ℕ → List A
+eight_cells nothing l a w = take 8 (take w (drop a l) ++ replicate 8 nothing)
+
+-- and with zeros, of bytes or of stamps (`read`)
+abbrev pub cells_at : List ℕ → ℕ → ℕ → List ℕ
+cells_at l a w = eight_cells 0 l a w
 
 -- the bytes once the first w of eight values are written to the cells from a on, and the stamps once these bear stamp t (`write_bytes`)
 unfoldable pub write_bytes : List ℕ → ℕ → ℕ → List ℕ → List ℕ

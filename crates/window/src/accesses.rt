@@ -2,23 +2,17 @@
 // what each `requires` says.
 ghost use Rattle.std.specs.Prelude.{◌≡◌, ◌+◌, ◌≤◌, length};
 ghost use Rattle.access.specs.Access.{ACCESS_WIDTH, access_record};
-ghost use Rattle.window.specs.Window.{window_of, cells_at, write_bytes, write_stamps, memory_access, read_access, write_access};
+ghost use Rattle.window.specs.Window.{cells_at, write_bytes, write_stamps, memory_access, read_access, write_access};
+ghost use Rattle.window.specs.Inner.{cells_of, SameSlices};
 
-use crate::cells::{read_bytes, read_stamps, write_bytes, write_stamps};
-use lists::slices::put;
-use words::wide;
+use crate::Window;
+use crate::cells::{read, write_bytes, write_stamps};
 
 // Eight bytes as numbers of a record.
 pub fn byte_words(value: [u8; 8]) -> [u64; 8]
     ensures { result ≡ value }
 {
-    let mut out = [0; 8];
-    let mut i = 0;
-    while i < 8 {
-        out[i] = wide(value[i]);
-        i += 1;
-    }
-    out
+    value.map(|byte| u64::from(byte))
 }
 
 // The record of an access to memory.
@@ -42,75 +36,88 @@ fn access_record(
     ]
 }
 
-// Reads `width` cells at `src`, which bear `stamp` from now on, and records the read.
-pub fn read_cells(
-    bytes: &[u8],
-    stamps: &mut [u64],
-    src: u64,
-    width: u64,
-    stamp: u64,
-    access: &mut [u64],
-) -> [u8; 8]
-    requires { (width ≤ 8) × (src + width ≤ length bytes.now) × (length stamps.old ≡ length bytes.now) × (length access.old ≡ ACCESS_WIDTH) }
-    ensures value { result ≡ cells_at bytes.now src width }
-    ensures stamps_after { stamps.new ≡ write_stamps stamps.old src width stamp }
-    ensures access_after { access.new ≡ access_record (read_access (window_of bytes.now stamps.old) src width stamp) }
-{
-    let at = src as usize;
-    let n = width as usize;
-    let value = read_bytes(bytes, at, n);
-    let old_stamps = read_stamps(stamps, at, n);
-    let numbers = access_record(src, value, stamp, width, 1, value, old_stamps);
-    put(access, &numbers);
-    write_stamps(stamps, at, n, stamp);
-    value
-}
+impl Window<'_> {
+    // The bytes of `width` cells from `a` on, and zeros to eight.
+    pub fn bytes_at(&self, a: u64, width: u64) -> [u8; 8]
+        requires { (width ≤ 8) × (a + width ≤ length self.now.bytes.now) }
+        ensures { result ≡ cells_at self.now.bytes.now a width }
+    {
+        read(self.bytes, a as usize, width as usize, 0)
+    }
 
-// Writes `width` of the eight values to the cells at `dst`, at `stamp`, and records the write.
-pub fn write_cells(
-    bytes: &mut [u8],
-    stamps: &mut [u64],
-    dst: u64,
-    width: u64,
-    value: [u8; 8],
-    stamp: u64,
-    access: &mut [u64],
-)
-    requires { (width ≤ 8) × (dst + width ≤ length bytes.old) × (length stamps.old ≡ length bytes.old) × (length access.old ≡ ACCESS_WIDTH) }
-    ensures bytes_after { bytes.new ≡ write_bytes bytes.old dst width value }
-    ensures stamps_after { stamps.new ≡ write_stamps stamps.old dst width stamp }
-    ensures access_after { access.new ≡ access_record (write_access (window_of bytes.old stamps.old) dst width value stamp) }
-{
-    let at = dst as usize;
-    let n = width as usize;
-    let old = read_bytes(bytes, at, n);
-    let old_stamps = read_stamps(stamps, at, n);
-    let numbers = access_record(dst, value, stamp, width, 0, old, old_stamps);
-    put(access, &numbers);
-    write_bytes(bytes, at, n, value);
-    write_stamps(stamps, at, n, stamp);
-}
+    // Their stamps.
+    pub fn stamps_at(&self, a: u64, width: u64) -> [u64; 8]
+        requires { (width ≤ 8) × (a + width ≤ length self.now.bytes.now) }
+        ensures { result ≡ cells_at self.now.stamps.now a width }
+    {
+        read(self.stamps, a as usize, width as usize, 0)
+    }
 
-// Writes what was read of the cells at `src` back to them, at `stamp`, and records the read with the stamps found then.
-pub fn write_back(
-    bytes: &mut [u8],
-    stamps: &mut [u64],
-    src: u64,
-    width: u64,
-    value: [u8; 8],
-    old_stamps: [u64; 8],
-    stamp: u64,
-    access: &mut [u64],
-)
-    requires { (width ≤ 8) × (src + width ≤ length bytes.old) × (length stamps.old ≡ length bytes.old) × (length access.old ≡ ACCESS_WIDTH) }
-    ensures bytes_after { bytes.new ≡ write_bytes bytes.old src width value }
-    ensures stamps_after { stamps.new ≡ write_stamps stamps.old src width stamp }
-    ensures access_after { access.new ≡ access_record (memory_access src value stamp width 1 value old_stamps) }
-{
-    let at = src as usize;
-    let n = width as usize;
-    let numbers = access_record(src, value, stamp, width, 1, value, old_stamps);
-    put(access, &numbers);
-    write_bytes(bytes, at, n, value);
-    write_stamps(stamps, at, n, stamp);
+    // Reads `width` cells at `src`, which bear `stamp` from now on, and records the read.
+    pub fn read_cells(&mut self, src: u64, width: u64, stamp: u64, access: &mut [u64]) -> [u8; 8]
+        requires { (width ≤ 8) × (src + width ≤ length self.old.bytes.now) × (length access.old ≡ ACCESS_WIDTH) }
+        ensures value { result ≡ cells_at self.old.bytes.now src width }
+        ensures bytes_after { self.new.bytes.now ≡ self.old.bytes.now }
+        ensures stamps_after { self.new.stamps.now ≡ write_stamps self.old.stamps.now src width stamp }
+        ensures access_after { access.new ≡ access_record (read_access (cells_of self.old) src width stamp) }
+        ensures same { SameSlices self.old self.new }
+    {
+        let at = src as usize;
+        let n = width as usize;
+        let value = self.bytes_at(src, width);
+        let old_stamps = self.stamps_at(src, width);
+        let numbers = access_record(src, value, stamp, width, 1, value, old_stamps);
+        access.copy_from_slice(&numbers);
+        write_stamps(self.stamps, at, n, stamp);
+        value
+    }
+
+    // Writes `width` of the eight values to the cells at `dst`, at `stamp`, and records the write.
+    pub fn write_cells(
+        &mut self,
+        dst: u64,
+        width: u64,
+        value: [u8; 8],
+        stamp: u64,
+        access: &mut [u64],
+    )
+        requires { (width ≤ 8) × (dst + width ≤ length self.old.bytes.now) × (length access.old ≡ ACCESS_WIDTH) }
+        ensures bytes_after { self.new.bytes.now ≡ write_bytes self.old.bytes.now dst width value }
+        ensures stamps_after { self.new.stamps.now ≡ write_stamps self.old.stamps.now dst width stamp }
+        ensures access_after { access.new ≡ access_record (write_access (cells_of self.old) dst width value stamp) }
+        ensures same { SameSlices self.old self.new }
+    {
+        let at = dst as usize;
+        let n = width as usize;
+        let old = self.bytes_at(dst, width);
+        let old_stamps = self.stamps_at(dst, width);
+        let numbers = access_record(dst, value, stamp, width, 0, old, old_stamps);
+        access.copy_from_slice(&numbers);
+        write_bytes(self.bytes, at, n, value);
+        write_stamps(self.stamps, at, n, stamp);
+    }
+
+    // Writes what was read of the cells at `src` back to them, at `stamp`, and records the read with the stamps found then.
+    pub fn write_back(
+        &mut self,
+        src: u64,
+        width: u64,
+        value: [u8; 8],
+        old_stamps: [u64; 8],
+        stamp: u64,
+        access: &mut [u64],
+    )
+        requires { (width ≤ 8) × (src + width ≤ length self.old.bytes.now) × (length access.old ≡ ACCESS_WIDTH) }
+        ensures bytes_after { self.new.bytes.now ≡ write_bytes self.old.bytes.now src width value }
+        ensures stamps_after { self.new.stamps.now ≡ write_stamps self.old.stamps.now src width stamp }
+        ensures access_after { access.new ≡ access_record (memory_access src value stamp width 1 value old_stamps) }
+        ensures same { SameSlices self.old self.new }
+    {
+        let at = src as usize;
+        let n = width as usize;
+        let numbers = access_record(src, value, stamp, width, 1, value, old_stamps);
+        access.copy_from_slice(&numbers);
+        write_bytes(self.bytes, at, n, value);
+        write_stamps(self.stamps, at, n, stamp);
+    }
 }

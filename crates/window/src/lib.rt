@@ -4,3 +4,13 @@
 
 pub mod accesses;
 pub mod cells;
+
+ghost use Rattle.std.specs.Prelude.{◌≡◌, length};
+
+// The two slices, as long as one another.
+#[derive(Drop)]
+pub struct Window<'a> {
+    pub bytes: &'a mut [u8],
+    pub stamps: &'a mut [u64],
+    ghost same: { length stamps.now ≡ length bytes.now },
+}

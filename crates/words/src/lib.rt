@@ -35,28 +35,28 @@ pub fn halves(x: u64) -> [u64; 4]
 pub fn wide(byte: u8) -> u64
     ensures { (result ≡ byte) × (result < 256) }
 {
-    byte as u64
+    u64::from(byte)
 }
 
 // b as a number.
 pub fn bit(b: bool) -> u64
     ensures { result ≡ bit b }
 {
-    if b { 1 } else { 0 }
+    u64::from(b)
 }
 
 // The sum, for the INCR and RES columns: "sums taken modulo 2^64, as the Rust's wrapping calls".
 pub fn wrapping_add(a: u64, b: u64) -> u64
     ensures { result ≡ wrap_add a b }
 {
-    std::num::wrapping_add_u64(a, b)
+    a.wrapping_add(b)
 }
 
 // The difference, for the DECR columns: "sums taken modulo 2^64, as the Rust's wrapping calls".
 pub fn wrapping_sub(a: u64, b: u64) -> u64
     ensures { result ≡ wrap_sub a b }
 {
-    std::num::wrapping_sub_u64(a, b)
+    a.wrapping_sub(b)
 }
 
 // Whether `at + count`, a plain sum, is above `end`.

@@ -1,41 +1,24 @@
--- `add_pair`: a list that is no operand is refused first; else the answer is that of the three operands read. Assumes nothing.
-use mathlib.Core.Path.{◌≡◌, ap, ◌∙◌}
-use mathlib.Core.Bool.{◌&&◌}
-use Rattle.add_pair.specs.Flat.{operand_of}
-use Rattle.add_pair.specs.Answers.{is_form, is_operand, add_pair_numbers}
-use Rattle.add_pair.proofs.Answers.{malformed, malformed_out, answered, answered_out}
+-- `add_pair`: the first list that is no operand refuses the three; else the answer is that of the operands read. Assumes nothing.
+use Rattle.std.proofs.lemmas.Result.{err_from_is_err_and}
+use Rattle.add_pair.proofs.Answers.{malformed, answered}
 use Rattle.add_pair.proofs.add_pair.Goals as goal
 
-pub returns-then-not-is_form : goal.returns-then-not-is_form
-returns-then-not-is_form c =
-    let formed : let lists = c.args in
-    (c.is_form.result && c.is_form-2.result && c.is_form-3.result)
-    ≡ (is_operand lists.lhs.now && is_operand lists.rhs.now && is_operand lists.sum.now) =
-    λ i.
-    (c.is_form.ensures ∙ ap is_form c.flat_form-lhs_form.ensures) i
-    && (c.is_form-2.ensures ∙ ap is_form c.flat_form-rhs_form.ensures) i
-    && (c.is_form-3.ensures ∙ ap is_form c.flat_form-sum_form.ensures) i in
-    let no = c.if-not-is_form.true in
-    record {
-      answer = ap add_pair_numbers (malformed _ _ _ _ _ formed no);
-      written = malformed_out _ _ _ _ _ formed no _;
-    }
+pub returns-in_err-lhs : goal.returns-in_err-lhs
+returns-in_err-lhs c =
+    let why = err_from_is_err_and c.from_residual.result c.from_residual.ensures.1 in
+    rw (why.1, why.2, c.in_err-lhs.ensures.1) (malformed _ _ _ _ _ _ (simp c.in_err-lhs.ensures.0))
+
+pub returns-in_err-rhs : goal.returns-in_err-rhs
+returns-in_err-rhs c =
+    let why = err_from_is_err_and c.from_residual-in_err-rhs.result c.from_residual-in_err-rhs.ensures.1 in
+    rw (why.1, why.2, c.in_err-rhs.ensures.1) (malformed _ _ _ _ _ _ (simp (c.in_ok-lhs.ensures.0, c.in_err-rhs.ensures.0)))
+
+pub returns-in_err-sum : goal.returns-in_err-sum
+returns-in_err-sum c =
+    let why = err_from_is_err_and c.from_residual-in_err-sum.result c.from_residual-in_err-sum.ensures.1 in
+    rw (why.1, why.2, c.in_err-sum.ensures.1) (malformed _ _ _ _ _ _ (simp (c.in_ok-lhs.ensures.0, c.in_ok-rhs.ensures.0, c.in_err-sum.ensures.0)))
 
 pub returns : goal.returns
 returns c =
-    let formed : let lists = c.args in
-    (c.is_form.result && c.is_form-2.result && c.is_form-3.result)
-    ≡ (is_operand lists.lhs.now && is_operand lists.rhs.now && is_operand lists.sum.now) =
-    λ i.
-    (c.is_form.ensures ∙ ap is_form c.flat_form-lhs_form.ensures) i
-    && (c.is_form-2.ensures ∙ ap is_form c.flat_form-rhs_form.ensures) i
-    && (c.is_form-3.ensures ∙ ap is_form c.flat_form-sum_form.ensures) i in
-    let x = c.operand_of.ensures ∙ ap (operand_of _) c.flat_form-lhs_form.ensures in
-    let y = c.operand_of-2.ensures ∙ ap (operand_of _) c.flat_form-rhs_form.ensures in
-    let z = c.operand_of-3.ensures ∙ ap (operand_of _) c.flat_form-sum_form.ensures in
-    let yes = c.if-not-is_form.false in
-    let done = c.operands_pair.ensures in
-    record {
-      answer = ap add_pair_numbers (answered _ _ _ _ _ formed yes x y z done.answer);
-      written = answered_out _ _ _ _ _ formed yes x y z done.answer _ done.out;
-    }
+    answered _ _ _ _ _ _ c.in_ok-lhs.ensures.0 c.in_ok-rhs.ensures.0 c.in_ok-sum.ensures.0 c.in_ok-lhs.ensures.1 c.in_ok-rhs.ensures.1
+    c.in_ok-sum.ensures.1 c.operands_pair.ensures.answer c.operands_pair.ensures.out

@@ -21,7 +21,7 @@ pub returns-then-address_fits : goal.returns-then-address_fits
 unfolding built
 returns-then-address_fits c =
     let a = c.args in
-    let same = c.table_of-t.ensures in
+    let same = c.from-t.ensures in
     let fits = ap (λ (t : AccessTable). address_fits t a.reg_addr) (sym same) ∙ sym c.address_fits.ensures ∙ c.if-address_fits.true in
     let p = pushed_fits _ c.route_of-route.result (route_at (goal.at.returns-then-address_fits c).After-route_of-route) fits in record {
       answer = ap (λ (x : RegAccess). push_numbers x.answer) p;
@@ -34,7 +34,7 @@ pub returns : goal.returns
 unfolding built
 returns c =
     let a = c.args in
-    let fits = ap (λ (t : AccessTable). address_fits t a.reg_addr) (sym c.table_of-t.ensures) ∙ sym c.address_fits.ensures ∙ c.if-address_fits.false in
+    let fits = ap (λ (t : AccessTable). address_fits t a.reg_addr) (sym c.from-t.ensures) ∙ sym c.address_fits.ensures ∙ c.if-address_fits.false in
     let p = pushed_not _ c.route_of-route.result (route_at (goal.at.returns c).After-route_of-route) fits in record {
       answer = ap (λ (x : RegAccess). push_numbers x.answer) p;
       written = ap (λ (x : RegAccess). x.written) p;

@@ -21,30 +21,6 @@ both_left {n} {m} i j e f g =
 pub loop-i-init : goal.loop-i-init
 loop-i-init c = (omega arith, c.record_count-n.ensures, c.record_count-m.ensures, omega arith, omega arith, going_start _ _ _)
 
-pub whole_stamp-requires : goal.whole_stamp-requires
-whole_stamp-requires c =
-    let l = c.loop-i in
-    let left = both_left l.i l.j c.loop-i-test.true l.invariant.1 l.invariant.2 in
-    omega (arith, left)
-
-pub whole_stamp-requires-in-loop-i : goal.whole_stamp-requires-in-loop-i
-whole_stamp-requires-in-loop-i c =
-    let l = c.loop-i in
-    let left = both_left l.i l.j c.loop-i-test.true l.invariant.1 l.invariant.2 in
-    omega (arith, left)
-
-pub put_call-requires : goal.put_call-requires
-put_call-requires c =
-    let l = c.loop-i in
-    let left = both_left l.i l.j c.loop-i-test.true l.invariant.1 l.invariant.2 in
-    (omega (arith, left), omega (arith, left, l.invariant.0))
-
-pub loop-i-smaller-then-whole_stamp : goal.loop-i-smaller-then-whole_stamp
-loop-i-smaller-then-whole_stamp c =
-    let l = c.loop-i in
-    let left = both_left l.i l.j c.loop-i-test.true l.invariant.1 l.invariant.2 in
-    omega (arith, left, l.invariant.1, l.invariant.2)
-
 pub loop-i-preserved-then-whole_stamp : goal.loop-i-preserved-then-whole_stamp
 loop-i-preserved-then-whole_stamp c =
     let l = c.loop-i in
@@ -60,18 +36,6 @@ loop-i-preserved-then-whole_stamp c =
           ∙ goes_first a b l.i l.j left.0 left.1 c.requires.0 (omega arith) l.joined
           ∙ l.invariant.5,
     )
-
-pub put_call-requires-in-loop-i : goal.put_call-requires-in-loop-i
-put_call-requires-in-loop-i c =
-    let l = c.loop-i in
-    let left = both_left l.i l.j c.loop-i-test.true l.invariant.1 l.invariant.2 in
-    (omega (arith, left), omega (arith, left, l.invariant.0))
-
-pub loop-i-smaller : goal.loop-i-smaller
-loop-i-smaller c =
-    let l = c.loop-i in
-    let left = both_left l.i l.j c.loop-i-test.true l.invariant.1 l.invariant.2 in
-    omega (arith, left, l.invariant.1, l.invariant.2)
 
 pub loop-i-preserved : goal.loop-i-preserved
 loop-i-preserved c =
@@ -90,16 +54,6 @@ loop-i-preserved c =
     )
 
 -- behind the loop
-pub put_rest-requires : goal.put_rest-requires
-put_rest-requires c = let l = c.loop-i in (omega arith, omega (arith, l.invariant.0, l.invariant.1, l.invariant.2))
-
-pub put_rest-requires-2 : goal.put_rest-requires-2
-put_rest-requires-2 c =
-    let l = c.loop-i in
-    let with_first : length (store l.joined (HANDED_WIDTH * (l.i + l.j)) (drop (HANDED_WIDTH * l.i) c.args.first.now)) ≡ length c.args.joined.now =
-    length_store l.joined _ _ ∙ l.invariant.0 in
-    (omega arith, omega (arith, ap length c.put_rest.ensures, with_first, l.invariant.1, l.invariant.2))
-
 pub returns : goal.returns
 returns c =
     let l = c.loop-i in

@@ -1,6 +1,9 @@
 -- `calls_in_turn::ahead::count` meets its contract. Assumes nothing.
 use native.Mathlib.Omega.{arith}
-use borrow.Author.Tests.{lt-ltb, le-ltb}
+use mathlib.Core.Path.{ap, ◌∙◌}
+use Prim.Native.Nat.{◌+◌}
+use lib.Dec.{ltb}
+use Rattle.expansion_rows.proofs.RowList.{bit_lem}
 use Rattle.expansion.specs.Tries.{under, lengths_are}
 use Rattle.calls_in_turn.proofs.Counting.{count_start, count_turn, count_end}
 use Rattle.calls_in_turn.proofs.ahead.count.Goals as goal
@@ -19,7 +22,7 @@ loop-k-preserved c =
     let a = c.args in
     count_turn (under a.gap) (lengths_are a.cells a.stamped a.room a.space) a.calls.now _ _ _ _ c.loop-k.invariant
     c.loop-k-test.true _ c.record_at-call.ensures _ _ told.ensures.value told.ensures.result_bound
-    (grind (arith, lt-ltb 0 told.result, le-ltb 0 told.result))
+    (ap (λ n. c.loop-k.accepted + n) (c.from-accepted.ensures ∙ bit_lem (ltb 0 told.result)))
 
 pub returns : goal.returns
 returns c =

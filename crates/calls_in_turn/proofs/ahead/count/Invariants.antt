@@ -1,4 +1,3 @@
-use Prim.Native.Nat.{◌-◌}
 use Rattle.expansion.specs.Tries.{under, lengths_are}
 use Rattle.calls_in_turn.proofs.Counting.{CountAt}
 use Rattle.calls_in_turn.proofs.ahead.count.Given as goal
@@ -6,6 +5,3 @@ use Rattle.calls_in_turn.proofs.ahead.count.Given as goal
 abbrev pub invariant-loop-k : goal.invariant-loop-k
 invariant-loop-k l =
     CountAt (under l.gap) (lengths_are l.cells l.stamped l.room l.space) l.calls l.n l.ops l.accepted l.k
-
-abbrev pub decreases-loop-k : goal.decreases-loop-k
-decreases-loop-k l = l.n - l.k

@@ -1,9 +1,5 @@
-use Prim.Native.Nat.{◌-◌}
 use Rattle.chain.proofs.Rows.{Walk}
 use Rattle.chain.proofs.check.check.Given as goal
 
-abbrev pub invariant-rows : goal.invariant-rows
-invariant-rows l = Walk l.gap l.rows l.behind l.k
-
-abbrev pub decreases-rows : goal.decreases-rows
-decreases-rows l = l.n - l.k
+abbrev pub invariant-loop-k : goal.invariant-loop-k
+invariant-loop-k l = Walk l.gap l.rows l.previous l.k

@@ -1,6 +1,7 @@
 -- `expansion_rows::turns::read_pass` meets its contract. The invariant: going on from here gives what the whole pass gives. Assumes
 -- nothing.
-use mathlib.Core.Path.{◌≡◌, ap}
+use mathlib.Core.Path.{◌≡◌, refl, ap, ◌∙◌}
+use lib.Dec.{eqb}
 use Prim.Native.Nat.{◌+◌, ◌-◌, ◌*◌}
 use native.Mathlib.Omega.{arith}
 use Rattle.lists.proofs.Store.{run_length}
@@ -8,6 +9,7 @@ use Rattle.call.specs.Calls.{Call}
 use Rattle.call.specs.Inner.{call_of}
 use Rattle.call.specs.Ops.{OP_WIDTH}
 use Rattle.access.specs.Access.{ACCESS_WIDTH}
+use Rattle.expansion_rows.proofs.RowList.{bit_lem}
 use Rattle.expansion_rows.proofs.ReadLoop.{Ahead, pass_start, ahead, pass_turn, pass_end}
 use Rattle.expansion_rows.proofs.turns.read_pass.Goals as goal
 use Rattle.expansion_rows.proofs.turns.read_pass.Goals.{After-copy_row_width-width}
@@ -15,19 +17,22 @@ use Rattle.expansion_rows.proofs.turns.read_pass.Goals.{After-copy_row_width-wid
 -- what a turn may count on, once its width is known
 ahead_at : (c : After-copy_row_width-width)
     → let l = c.loop-left in
-    Ahead c.per_turn-per.result l.bytes l.stamps l.ops l.accesses (call_of l.left) l.k l.j c.copy_row_width-width.result
+    Ahead (1 + c.from-per.result) l.window.bytes.now l.window.stamps.now l.ops l.accesses (call_of l.left) l.k l.j c.copy_row_width-width.result
 ahead_at c =
     let a = c.args in
     let l = c.loop-left in
-    ahead (call_of a.call) a.bytes.now a.stamps.now a.ops.now a.accesses.now c.per_turn-per.result
-    l.bytes l.stamps l.ops l.accesses (call_of l.left) l.first l.k l.j l.invariant
+    ahead (call_of a.call) a.window.now.bytes.now a.window.now.stamps.now a.ops.now a.accesses.now (1 + c.from-per.result)
+    l.window.bytes.now l.window.stamps.now l.ops l.accesses (call_of l.left) l.first l.k l.j l.invariant.at
     c.requires c.loop-left-test.true c.copy_row_width-width.result c.copy_row_width-width.ensures
 
 pub loop-left-init : goal.loop-left-init
 loop-left-init c =
     let a = c.args in
-    pass_start (call_of a.call) a.bytes.now a.stamps.now a.ops.now a.accesses.now
-    c.per_turn-per.result c.requires c.per_turn-per.ensures
+    record {
+      at = pass_start (call_of a.call) a.window.now.bytes.now a.window.now.stamps.now a.ops.now a.accesses.now (1 + c.from-per.result) a.window.now.same
+          (ap (λ n. 1 + n) (c.from-per.ensures ∙ bit_lem (eqb a.call.kind 1)));
+      same = (refl, refl);
+    }
 
 pub overflow_mul-k : goal.overflow_mul-k
 overflow_mul-k c = omega (arith, ahead_at (goal.at.overflow_mul-k c).After-copy_row_width-width)
@@ -75,11 +80,11 @@ pub row_turn-requires : goal.row_turn-requires
 row_turn-requires c =
     let h = ahead_at (goal.at.row_turn-requires c).After-copy_row_width-width in
     let l = c.loop-left in
-    let per = c.per_turn-per.result in
+    let per = 1 + c.from-per.result in
     let op = run_length l.ops (OP_WIDTH * l.k) (OP_WIDTH * l.k + OP_WIDTH - OP_WIDTH * l.k) (omega (arith, h.op_room)) in
     let access = ACCESS_WIDTH * l.j in
     let part = run_length l.accesses access (ACCESS_WIDTH * (l.j + per) - access) (omega (arith, h.access_room)) in
-    (h.wide, omega (arith, h.source, h.within), h.dest, h.window, omega (arith, op), omega (arith, part, h.access_part), h.later)
+    (h.wide, omega (arith, h.source, h.within), h.dest, omega (arith, op), omega (arith, part, h.access_part), h.later)
 
 pub rest-left-requires : goal.rest-left-requires
 rest-left-requires c =
@@ -88,11 +93,11 @@ rest-left-requires c =
 
 pub overflow_add-k-in-loop-left : goal.overflow_add-k-in-loop-left
 overflow_add-k-in-loop-left c =
-    omega (arith, (ahead_at (goal.at.overflow_add-k-in-loop-left c).After-copy_row_width-width).op_room, c.loop-left.invariant.ops_same)
+    omega (arith, (ahead_at (goal.at.overflow_add-k-in-loop-left c).After-copy_row_width-width).op_room, c.loop-left.invariant.at.ops_same)
 
 pub overflow_add-j-in-loop-left : goal.overflow_add-j-in-loop-left
 overflow_add-j-in-loop-left c =
-    omega (arith, (ahead_at (goal.at.overflow_add-j-in-loop-left c).After-copy_row_width-width).access_room, c.loop-left.invariant.accesses_same)
+    omega (arith, (ahead_at (goal.at.overflow_add-j-in-loop-left c).After-copy_row_width-width).access_room, c.loop-left.invariant.at.accesses_same)
 
 pub loop-left-smaller : goal.loop-left-smaller
 loop-left-smaller c =
@@ -105,12 +110,17 @@ loop-left-preserved c =
     let width = c.copy_row_width-width in
     let l = c.loop-left in
     let a = c.args in
-    pass_turn (call_of a.call) a.bytes.now a.stamps.now a.ops.now a.accesses.now c.per_turn-per.result
-    l.bytes l.stamps l.ops l.accesses (call_of l.left) l.first l.k l.j l.invariant
-    c.requires c.loop-left-test.true width.result width.ensures
-    t.new.bytes t.new.stamps t.new.op t.new.accesses (call_of c.rest-left.result)
-    t.ensures.bytes_after t.ensures.stamps_after t.ensures.op_after t.ensures.accesses_after c.rest-left.ensures
-    t.auto.bytes t.auto.stamps t.auto.op t.auto.accesses
+    let after = t.new.window in
+    let same = t.ensures.same in
+    record {
+      at = pass_turn (call_of a.call) a.window.now.bytes.now a.window.now.stamps.now a.ops.now a.accesses.now (1 + c.from-per.result)
+          l.window.bytes.now l.window.stamps.now l.ops l.accesses (call_of l.left) l.first l.k l.j l.invariant.at
+          c.requires c.loop-left-test.true width.result width.ensures
+          after.bytes.now after.stamps.now t.new.op t.new.accesses (call_of c.rest-left.result)
+          t.ensures.bytes_after t.ensures.stamps_after t.ensures.op_after t.ensures.accesses_after c.rest-left.ensures
+          t.auto.op t.auto.accesses;
+      same = (same.0 ∙ l.invariant.same.0, same.1 ∙ l.invariant.same.1);
+    }
 
 pub returns : goal.returns
 returns c =
@@ -118,6 +128,6 @@ returns c =
     let a = c.args in
     let l = c.loop-left in
     let none : l.left.count ≡ 0 = omega arith in
-    let ends = pass_end (call_of a.call) a.bytes.now a.stamps.now a.ops.now a.accesses.now c.per_turn-per.result in
-    ends l.bytes l.stamps l.ops l.accesses (call_of l.left) l.first l.k l.j l.invariant none in
-    record { bytes_after = whole.0; stamps_after = whole.1.0; ops_after = whole.1.1.0; accesses_after = whole.1.1.1 }
+    let ends = pass_end (call_of a.call) a.window.now.bytes.now a.window.now.stamps.now a.ops.now a.accesses.now (1 + c.from-per.result) in
+    ends l.window.bytes.now l.window.stamps.now l.ops l.accesses (call_of l.left) l.first l.k l.j l.invariant.at none in
+    record { bytes_after = whole.0; stamps_after = whole.1.0; ops_after = whole.1.1.0; accesses_after = whole.1.1.1; same = c.loop-left.invariant.same }

@@ -5,7 +5,7 @@ use Rattle.call.specs.Calls.{Call}
 use Rattle.registers.specs.Step.{register_step, step_numbers}
 use Rattle.registers.specs.declared.RegisterStep.{RegisterStep}
 use Rattle.exports.specs.FlatRegisters.{state_numbers, flat_step, flat_answer}
-use Rattle.exports.proofs.FlatRegisters.{kind_refused, index_refused, same_step, same_answer, step_refused_lem, ten, step_taken}
+use Rattle.exports.proofs.FlatRegisters.{told, kind_refused, index_refused, same_step, same_answer, step_refused_lem, ten, step_taken}
 use Rattle.exports.proofs.flat_registers.collect_copy_register_ops.Goals as goal
 
 pub returns-then-no_kind : goal.returns-then-no_kind
@@ -30,7 +30,7 @@ returns-then-answer-ne0 c =
     let step : let a = c.args in register_step c.kind_of.result a.timestamp a.src a.dst a.count c.state_of.result
     ≡ flat_step call c.args.state.now = same_step call c.args.state.now c.args.records.now _ _ c.kind_of.ensures c.state_of.ensures in
     let answer_at : c.numbers-answer.result ≡ flat_answer call c.args.state.now =
-    c.numbers-answer.ensures
+    told _ _ c.numbers-answer.ensures.ok c.numbers-answer.ensures.err
     ∙ c.collect_copy_register_ops-step.ensures.answer
     ∙ ap (λ (x : RegisterStep). step_numbers x.answer) step
     ∙ same_answer call c.args.state.now c.args.records.now
@@ -43,7 +43,7 @@ returns c =
     let step : let a = c.args in register_step c.kind_of.result a.timestamp a.src a.dst a.count c.state_of.result
     ≡ flat_step call c.args.state.now = same_step call c.args.state.now c.args.records.now _ _ c.kind_of.ensures c.state_of.ensures in
     let answer_at : c.numbers-answer.result ≡ flat_answer call c.args.state.now =
-    c.numbers-answer.ensures
+    told _ _ c.numbers-answer.ensures.ok c.numbers-answer.ensures.err
     ∙ c.collect_copy_register_ops-step.ensures.answer
     ∙ ap (λ (x : RegisterStep). step_numbers x.answer) step
     ∙ same_answer call c.args.state.now c.args.records.now

@@ -1,6 +1,5 @@
 -- `kinds::judge::first_bad` meets its contract. The invariant: the lowest bad record is the lowest from `k` on. Assumes nothing.
 use mathlib.Core.Path.{◌≡◌, sym, ap, ◌∙◌}
-use Prim.Native.Nat.{◌-◌}
 use native.Mathlib.Omega.{arith}
 use Rattle.records.specs.Records.{record_at}
 use Rattle.records.proofs.Records.{bad_start, bad_pass, bad_stop, bad_end, record_within}
@@ -9,7 +8,7 @@ use Rattle.kinds.proofs.Widths.{width_bounds}
 use Rattle.kinds.proofs.judge.first_bad.Goals as goal
 
 pub loop-k-init : goal.loop-k-init
-loop-k-init c = (omega arith, bad_start _ _ _)
+loop-k-init c = bad_start _ _ _
 
 pub record_at-requires : goal.record_at-requires
 record_at-requires c =
@@ -26,7 +25,7 @@ returns-then-not-good_record c =
     ∙ ap (good_of_kind c.args.kind) (c.record_at.ensures ∙ ap (λ w. record_at w list c.loop-k.k) c.requires.0) in
     let args = c.args in
     let bad = sym judged ∙ c.if-not-good_record.true in
-    sym (c.loop-k.invariant.1 ∙ bad_stop (kind_width args.kind) (good_of_kind args.kind) args.list.now c.loop-k.k (omega arith) bad)
+    sym (c.loop-k.invariant ∙ bad_stop (kind_width args.kind) (good_of_kind args.kind) args.list.now c.loop-k.k (omega arith) bad)
 
 pub loop-k-preserved : goal.loop-k-preserved
 loop-k-preserved c =
@@ -37,9 +36,10 @@ loop-k-preserved c =
     ∙ ap (good_of_kind c.args.kind) (c.record_at.ensures ∙ ap (λ w. record_at w list c.loop-k.k) c.requires.0) in
     let args = c.args in
     let good = sym judged ∙ c.if-not-good_record.false in
-    (omega arith, c.loop-k.invariant.1 ∙ bad_pass (kind_width args.kind) (good_of_kind args.kind) args.list.now c.loop-k.k (omega arith) good)
+    c.loop-k.invariant ∙ bad_pass (kind_width args.kind) (good_of_kind args.kind) args.list.now c.loop-k.k (omega arith) good
 
 pub returns : goal.returns
 returns c =
     let args = c.args in
-    sym (c.loop-k.invariant.1 ∙ bad_end (kind_width args.kind) (good_of_kind args.kind) args.list.now c.loop-k.k (omega arith))
+    let over : c.loop-k.k ≡ args.n = omega arith in
+    sym (c.loop-k.invariant ∙ bad_end (kind_width args.kind) (good_of_kind args.kind) args.list.now c.loop-k.k (omega arith) ∙ over)

@@ -6,7 +6,7 @@ use native.Mathlib.Omega.{arith}
 use lib.ListN.{length, length-take, length-drop}
 use Rattle.lists.proofs.Flat.{row_within}
 use Rattle.records.specs.Records.{record_count}
-use Rattle.records.specs.declared.TableAnswer.TheVariants.{Made}
+use Rattle.std.specs.Prelude.{Ok}
 use Rattle.memw.specs.Tables.{row_width}
 use Rattle.memw.proofs.AccessTables.{record_width_bounds, no_rows, next_row, after_length}
 use Rattle.memw.proofs.trace.write_rows.Goals as goal
@@ -25,7 +25,7 @@ record_count-n-requires c =
 pub loop-k-init : goal.loop-k-init
 loop-k-init c =
     let args = c.args in
-    (omega arith, refl, sym (no_rows args.t args.records.now args.table.now))
+    (refl, sym (no_rows args.t args.records.now args.table.now))
 
 pub overflow_mul-v : goal.overflow_mul-v
 overflow_mul-v c = omega (arith, ends (goal.at.overflow_mul-v c).In-loop-k)
@@ -62,10 +62,10 @@ loop-k-preserved c =
     let fits : row_width args.t * k + row_width args.t ≤ length args.table.now =
     omega (arith, row_within (row_width args.t) k args.rows c.loop-k-test.true, c.requires.1) in
     let written =
-    next_row args.t args.records.now args.table.now c.loop-k.table _ k c.loop-k.invariant.2 c.write_row_at.ensures fits in
-    (omega arith, rw v (ap length written ∙ after_length args.t args.records.now (Made (k + 1)) args.table.now), rw v written)
+    next_row args.t args.records.now args.table.now c.loop-k.table _ k c.loop-k.invariant.1 c.write_row_at.ensures fits in
+    (rw v (ap length written ∙ after_length args.t args.records.now (Ok (k + 1)) args.table.now), rw v written)
 
 pub returns : goal.returns
 returns c =
     let e : c.loop-k.k ≡ c.args.rows = omega arith in
-    rw e at c.loop-k.invariant.2
+    rw e at c.loop-k.invariant.1

@@ -1,11 +1,7 @@
-use mathlib.Core.Path.{◌≡◌}
-use mathlib.Core.Bool.{true}
-use Prim.Native.Nat.{◌-◌, ◌≤◌}
+-- `judge::sum_in_row`: the terms passed are in the row. Assumes nothing.
+use Rattle.std.proofs.Common.{◌≡◌, true}
 use Rattle.operands.specs.Operands.{every, term_in_row, term_at}
 use Rattle.operands.proofs.judge.sum_in_row.Given as goal
 
 abbrev pub invariant-loop-k : goal.invariant-loop-k
-invariant-loop-k l = (l.k ≤ l.n) × (every (λ i. term_in_row (term_at l.terms i)) l.k ≡ true)
-
-abbrev pub decreases-loop-k : goal.decreases-loop-k
-decreases-loop-k l = l.n - l.k
+invariant-loop-k l = every (λ i. term_in_row (term_at l.terms i)) l.k ≡ true

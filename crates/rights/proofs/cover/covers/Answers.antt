@@ -1,14 +1,12 @@
 -- `rights::cover::covers` meets its contract. The invariant: the range is covered where what is left of it is; a turn leaves out the bytes of an
 -- entry that gives them all. Assumes nothing.
 use mathlib.Core.Path.{◌≡◌, refl, sym, ap, ◌∙◌}
-use mathlib.Core.Bool.{true}
-use mathlib.Core.List.{List}
-use Prim.Native.Nat.{ℕ, ◌-◌, ◌≤◌, ◌<◌}
+use Prim.Native.Nat.{◌<◌}
 use native.Mathlib.Omega.{arith}
-use Rattle.rights.specs.Entries.{entry_at, end_of, whole_entries}
-use Rattle.rights.specs.Rights.{covered}
+use Rattle.rights.specs.Entries.{entry_at, end_of}
 use Rattle.rights.proofs.CoverLaws.{covered_empty, covered_none, ends_ahead, covered_within, covered_beyond}
 use Rattle.rights.proofs.cover.covers.Goals as goal
+use Rattle.rights.proofs.cover.covers.Goals.{After-end_of-end}
 
 pub loop-left-init : goal.loop-left-init
 loop-left-init c = refl
@@ -27,78 +25,44 @@ end_of-end-requires c =
     let fits = c.requires c.giver-k.result (omega arith) in
     omega (arith, fits, ap end_of c.record_at.ensures)
 
-pub overflow_sub-end : goal.overflow_sub-end
-overflow_sub-end c =
+-- where the entry that gives byte `at` ends, and that this is behind it
+ends_at : (c : After-end_of-end) → c.end_of-end.result ≡ end_of (entry_at c.args.entries.now c.giver-k.result)
+ends_at c = c.end_of-end.ensures ∙ ap end_of c.record_at.ensures
+
+ahead_at : (c : After-end_of-end) → c.loop-left.at < c.end_of-end.result
+ahead_at c =
     let a = c.args in
-    let entries : List ℕ = a.entries.now in
     let l = c.loop-left in
-    let k = c.giver-k in
-    let end : ℕ = c.end_of-end.result in
-    let inside : k.result < whole_entries entries = omega arith in
-    let ends : end ≡ end_of (entry_at entries k.result) = c.end_of-end.ensures ∙ ap end_of c.record_at.ensures in
-    let ahead : l.at < end = ends_ahead entries a.party a.right l.at l.left k.result end k.ensures inside ends in
-    omega (arith, ahead)
+    ends_ahead a.entries.now a.party a.right l.at l.left c.giver-k.result c.end_of-end.result c.giver-k.ensures (omega arith) (ends_at c)
+
+pub overflow_sub-end : goal.overflow_sub-end
+overflow_sub-end c = omega (arith, ahead_at (goal.at.overflow_sub-end c).After-end_of-end)
 
 pub returns-then-left-end : goal.returns-then-left-end
 returns-then-left-end c =
     let a = c.args in
-    let entries : List ℕ = a.entries.now in
     let l = c.loop-left in
     let k = c.giver-k in
-    let end : ℕ = c.end_of-end.result in
-    let inside : k.result < whole_entries entries = omega arith in
-    let ends : end ≡ end_of (entry_at entries k.result) = c.end_of-end.ensures ∙ ap end_of c.record_at.ensures in
-    let within : l.left ≤ end - l.at → covered entries a.party a.right l.at l.left ≡ true =
-    covered_within entries a.party a.right l.at l.left k.result end k.ensures inside ends in
+    let within = covered_within a.entries.now a.party a.right l.at l.left k.result c.end_of-end.result k.ensures (omega arith)
+    (ends_at (goal.at.returns-then-left-end c).After-end_of-end) in
     sym (l.invariant ∙ within c.if-left-end.true)
 
 pub overflow_sub-left : goal.overflow_sub-left
-overflow_sub-left c =
-    let a = c.args in
-    let entries : List ℕ = a.entries.now in
-    let l = c.loop-left in
-    let k = c.giver-k in
-    let end : ℕ = c.end_of-end.result in
-    let inside : k.result < whole_entries entries = omega arith in
-    let ends : end ≡ end_of (entry_at entries k.result) = c.end_of-end.ensures ∙ ap end_of c.record_at.ensures in
-    let ahead : l.at < end = ends_ahead entries a.party a.right l.at l.left k.result end k.ensures inside ends in
-    omega (arith, ahead)
+overflow_sub-left c = omega (arith, ahead_at (goal.at.overflow_sub-left c).After-end_of-end)
 
 pub overflow_sub-left-in-loop-left : goal.overflow_sub-left-in-loop-left
-overflow_sub-left-in-loop-left c =
-    let a = c.args in
-    let entries : List ℕ = a.entries.now in
-    let l = c.loop-left in
-    let k = c.giver-k in
-    let end : ℕ = c.end_of-end.result in
-    let inside : k.result < whole_entries entries = omega arith in
-    let ends : end ≡ end_of (entry_at entries k.result) = c.end_of-end.ensures ∙ ap end_of c.record_at.ensures in
-    let ahead : l.at < end = ends_ahead entries a.party a.right l.at l.left k.result end k.ensures inside ends in
-    omega (arith, ahead)
+overflow_sub-left-in-loop-left c = omega (arith, ahead_at (goal.at.overflow_sub-left-in-loop-left c).After-end_of-end)
 
 pub loop-left-smaller : goal.loop-left-smaller
-loop-left-smaller c =
-    let a = c.args in
-    let entries : List ℕ = a.entries.now in
-    let l = c.loop-left in
-    let k = c.giver-k in
-    let end : ℕ = c.end_of-end.result in
-    let inside : k.result < whole_entries entries = omega arith in
-    let ends : end ≡ end_of (entry_at entries k.result) = c.end_of-end.ensures ∙ ap end_of c.record_at.ensures in
-    let ahead : l.at < end = ends_ahead entries a.party a.right l.at l.left k.result end k.ensures inside ends in
-    omega (arith, ahead)
+loop-left-smaller c = omega (arith, ahead_at (goal.at.loop-left-smaller c).After-end_of-end)
 
 pub loop-left-preserved : goal.loop-left-preserved
 loop-left-preserved c =
     let a = c.args in
-    let entries : List ℕ = a.entries.now in
     let l = c.loop-left in
     let k = c.giver-k in
-    let end : ℕ = c.end_of-end.result in
-    let inside : k.result < whole_entries entries = omega arith in
-    let ends : end ≡ end_of (entry_at entries k.result) = c.end_of-end.ensures ∙ ap end_of c.record_at.ensures in
-    let beyond : end - l.at < l.left → covered entries a.party a.right l.at l.left ≡ covered entries a.party a.right end (l.left - (end - l.at)) =
-    covered_beyond entries a.party a.right l.at l.left k.result end k.ensures inside ends in
+    let beyond = covered_beyond a.entries.now a.party a.right l.at l.left k.result c.end_of-end.result k.ensures (omega arith)
+    (ends_at (goal.at.loop-left-preserved c).After-end_of-end) in
     l.invariant ∙ beyond c.if-left-end.false
 
 pub returns : goal.returns

@@ -30,4 +30,4 @@ pub returns : goal.returns
 returns c =
     let a = c.args in
     let l = a.entries.now in
-    sym (c.loop-k.invariant ∙ first_end (gives_at l a.party a.right a.x) c.loop-k.k (whole_entries l) (omega arith))
+    omega (arith, c.loop-k.invariant ∙ first_end (gives_at l a.party a.right a.x) c.loop-k.k (whole_entries l) (omega arith))

@@ -9,6 +9,3 @@ use Rattle.rights.proofs.cover.giver.Given as goal
 abbrev pub invariant-loop-k : goal.invariant-loop-k
 invariant-loop-k l =
     giver l.entries l.party l.right l.x ≡ first (gives_at l.entries l.party l.right l.x) l.k (whole_entries l.entries - l.k)
-
-abbrev pub decreases-loop-k : goal.decreases-loop-k
-decreases-loop-k l = l.n - l.k

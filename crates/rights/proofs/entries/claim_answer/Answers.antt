@@ -2,10 +2,11 @@
 use mathlib.Core.Path.{◌≡◌, sym, ap, ◌∙◌}
 use mathlib.Core.Bool.{false}
 use mathlib.Core.List.{List}
+use Rattle.std.specs.Prelude.{Err}
 use Prim.Native.Nat.{ℕ, ◌≤◌}
 use native.Mathlib.Omega.{arith}
 use Rattle.rights.specs.Entries.{MOST_ENTRIES, entry_count, past_window}
-use Rattle.rights.specs.declared.ClaimAnswer.TheVariants.{BadField}
+use Rattle.rights.specs.declared.ClaimRefusal.TheVariants.{BadField}
 use Rattle.rights.proofs.EntryLaws.{answer_many, answer_past, answer_party, answer_entry, answer_good}
 use Rattle.rights.proofs.entries.claim_answer.Goals as goal
 
@@ -42,7 +43,7 @@ returns-then-bad-n c =
     let few : entry_count entries ≤ MOST_ENTRIES = omega (arith, count) in
     let inside : past_window entries cells ≡ false = sym c.past_window.ensures ∙ c.if-past_window.false in
     let bad = c.first_bad_entry-bad.ensures in
-    ap BadField bad ∙ answer_entry party entries cells few inside (omega arith) (omega (arith, bad, count))
+    ap (λ (k : ℕ). Err (BadField k)) bad ∙ answer_entry party entries cells few inside (omega arith) (omega (arith, bad, count))
 
 pub returns : goal.returns
 returns c =

@@ -1,5 +1,5 @@
 use mathlib.Core.Path.{◌≡◌}
-use Prim.Native.Nat.{◌-◌, ◌≤◌}
+use Prim.Native.Nat.{◌-◌}
 use Rattle.lists.specs.Lists.{first}
 use Rattle.records.proofs.Records.{bad_at}
 use Rattle.call.specs.Entries.{ENTRY_WIDTH, good_entry}
@@ -8,7 +8,4 @@ use Rattle.rights.proofs.entries.first_bad_entry.Given as goal
 
 abbrev pub invariant-loop-k : goal.invariant-loop-k
 invariant-loop-k l =
-    (l.k ≤ l.n) × (first_bad_entry l.entries ≡ first (bad_at ENTRY_WIDTH good_entry l.entries) l.k (entry_count l.entries - l.k))
-
-abbrev pub decreases-loop-k : goal.decreases-loop-k
-decreases-loop-k l = l.n - l.k
+    first_bad_entry l.entries ≡ first (bad_at ENTRY_WIDTH good_entry l.entries) l.k (entry_count l.entries - l.k)

@@ -5,18 +5,16 @@ use mathlib.Core.Bool.{true, not, ◌&&◌}
 use mathlib.Core.List.{List}
 use Prim.Native.Nat.{ℕ}
 use native.Mathlib.Omega.{arith}
-use lib.ListN.{length}
 use Rattle.lists.specs.Lists.{at}
 use Rattle.records.specs.Records.{record_at}
-use Rattle.records.proofs.Records.{record_within, bad_start, bad_pass}
+use Rattle.records.proofs.Records.{bad_start, bad_pass}
 use Rattle.access.specs.Access.{BASE_ADDRESS, ACCESS_WIDTH, good_access}
 use Rattle.access.specs.declared.AccessTable.TheVariants.{Register}
-use Rattle.access.proofs.Good.{good_length}
 use Rattle.classify.specs.Classify.{is_register_op, is_aligned_op, table_for}
 use Rattle.classify.specs.TableRecord.{address_fits}
 use Rattle.routing.specs.Routing.{routable}
 use Rattle.routing.specs.Inner.{table_by}
-use Rattle.routing.specs.declared.RouteAnswer.TheVariants.{BadRecord, BadAddress}
+use Rattle.routing.specs.declared.RouteRefusal.TheVariants.{BadRecord, BadAddress}
 use Rattle.routing.proofs.Routes.{table_by_lem, counted_start, counted_next, counted_few}
 use Rattle.routing.proofs.Judging.{misplaced, bad_refused, misplaced_refused, placed_routable, judged_stop, judged_end}
 use Rattle.routing.proofs.split.judge.Goals as goal
@@ -41,30 +39,14 @@ misplaced_at c =
 pub loop-k-init : goal.loop-k-init
 loop-k-init c =
     let l = c.args.accesses.now in
-    (omega arith, c.requires.0, c.requires.1, counted_start l, bad_start ACCESS_WIDTH routable l)
-
-pub record_at-op-requires : goal.record_at-op-requires
-record_at-op-requires c =
-    omega (arith, record_within ACCESS_WIDTH c.args.accesses.now c.loop-k.k (omega arith) (omega arith))
+    record { counted = counted_start l; passed = bad_start ACCESS_WIDTH routable l }
 
 pub returns-then-not-good_access : goal.returns-then-not-good_access
 returns-then-not-good_access c =
     let k = c.loop-k.k in
     let bad = sym (c.good_access.ensures ∙ ap good_access c.record_at-op.ensures) ∙ c.if-not-good_access.true in
     let s = bad_refused (record_k (goal.at.returns-then-not-good_access c).After-record_at-op) bad in
-    judged_stop c.args.accesses.now k (BadRecord k) (omega arith) c.loop-k.invariant.4 s.0 (s.1 k)
-
-pub is_register_op-to_register-requires : goal.is_register_op-to_register-requires
-is_register_op-to_register-requires c =
-    rw c.record_at-op.ensures (good_length _ (good_at (goal.at.is_register_op-to_register-requires c).Else-not-good_access))
-
-pub is_aligned_op-to_aligned-requires : goal.is_aligned_op-to_aligned-requires
-is_aligned_op-to_aligned-requires c =
-    rw c.record_at-op.ensures (good_at (goal.at.is_aligned_op-to_aligned-requires c).Else-not-good_access)
-
-pub bounds-op-1 : goal.bounds-op-1
-bounds-op-1 c =
-    omega (arith, ap length c.record_at-op.ensures, good_length _ (good_at (goal.at.bounds-op-1 c).Else-not-good_access))
+    judged_stop c.args.accesses.now k (BadRecord k) (omega arith) c.loop-k.invariant.passed s.0 (s.1 k)
 
 pub returns-then-to_register-address_fits : goal.returns-then-to_register-address_fits
 returns-then-to_register-address_fits c =
@@ -73,11 +55,11 @@ returns-then-to_register-address_fits c =
     let s =
     misplaced_refused (record_k at_goal.After-record_at-op) (good_at at_goal.Else-not-good_access)
     (sym (misplaced_at at_goal.After-address_fits) ∙ c.if-to_register-address_fits.true) in
-    judged_stop c.args.accesses.now k (BadAddress k) (omega arith) c.loop-k.invariant.4 s.0 (s.1 k)
+    judged_stop c.args.accesses.now k (BadAddress k) (omega arith) c.loop-k.invariant.passed s.0 (s.1 k)
 
 pub one_more-counts-requires : goal.one_more-counts-requires
 one_more-counts-requires c =
-    counted_few c.args.accesses.now c.loop-k.counts c.loop-k.k c.loop-k.invariant.3 (omega arith)
+    counted_few c.args.accesses.now c.loop-k.counts c.loop-k.k c.loop-k.invariant.counted (omega arith)
 
 pub loop-k-preserved : goal.loop-k-preserved
 loop-k-preserved c =
@@ -91,13 +73,10 @@ loop-k-preserved c =
     (λ i. table_by (is_register i) (is_aligned i)) ∙ table_by_lem record_at_k in
     let fine =
     placed_routable record_at_k (good_at at_goal.Else-not-good_access)
-    (sym (misplaced_at at_goal.After-address_fits) ∙ c.if-to_register-address_fits.false) in (
-      omega arith,
-      c.loop-k.invariant.1,
-      c.loop-k.invariant.2,
-      counted_next l k _ table c.loop-k.counts c.one_more-counts.result c.one_more-counts.ensures c.loop-k.invariant.3,
-      c.loop-k.invariant.4 ∙ bad_pass ACCESS_WIDTH routable l k (omega arith) fine,
-    )
+    (sym (misplaced_at at_goal.After-address_fits) ∙ c.if-to_register-address_fits.false) in record {
+      counted = counted_next l k _ table c.loop-k.counts c.one_more-counts.result c.one_more-counts.ensures c.loop-k.invariant.counted;
+      passed = c.loop-k.invariant.passed ∙ bad_pass ACCESS_WIDTH routable l k (omega arith) fine;
+    }
 
 pub returns : goal.returns
-returns c = judged_end c.args.accesses.now c.loop-k.k c.loop-k.counts (omega arith) c.loop-k.invariant.3 c.loop-k.invariant.4
+returns c = judged_end c.args.accesses.now c.loop-k.k c.loop-k.counts (omega arith) c.loop-k.invariant.counted c.loop-k.invariant.passed

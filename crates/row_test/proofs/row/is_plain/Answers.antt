@@ -1,7 +1,6 @@
 -- `row::is_plain`: a column at or above its cap is a fault, and where all lie below the tests decide. Assumes nothing.
 use mathlib.Core.Path.{sym, ◌∙◌}
 use mathlib.Core.Bool.{false≢true}
-use borrow.Author.Rules.{rules}
 use Rattle.row_test.proofs.Columns.{caps_of_fine}
 use Rattle.row_test.proofs.row.is_plain.Goals as goal
 
@@ -12,9 +11,3 @@ returns-then-not-fits c = (
       let given = c.requires in
       sym (c.if-not-fits.true) ∙ c.fits.ensures.1 (caps_of_fine _ given.0 _ given.1 e),
 )
-
-pub tests_hold-requires : goal.tests_hold-requires
-tests_hold-requires c = record {
-  gap_bound = search rules;
-  caps = c.fits.ensures.0 (c.if-not-fits.false);
-}

@@ -2,59 +2,34 @@
 use mathlib.Core.Path.{◌≡◌}
 use mathlib.Core.Logic.{◌↔◌}
 use borrow.Author.Rules.{rules}
+use Rattle.std.specs.Prelude.{Ok}
 use Rattle.copy_residues.specs.RowCheck.{row_fault}
-use Rattle.copy_residues.specs.declared.faults.RowFault.TheVariants.{Fine}
 use Rattle.copy_meaning.specs.Plain.{Plain}
 use Rattle.copy_meaning.specs.RowIff.{InRange}
-use Rattle.copy_meaning.proofs.Columns.{src_words, src_halves, dst_words, dst_halves, count_words}
 use Rattle.copy_meaning.proofs.RowIff.{plain_iff}
 use Rattle.row_test.proofs.Booleans.{◌and◌, failed}
 use Rattle.row_test.proofs.Columns.{in_range, flag_bit}
 use Rattle.row_test.proofs.row.tests_hold.Goals as goal
 
-pub words_at-count-requires : goal.words_at-count-requires
-words_at-count-requires c =
-    record {
-      row_len = search (rules, count_words, in_range);
-      two_words = search (rules, count_words, in_range);
-    }
-
-pub tail-requires : goal.tail-requires
-tail-requires c = search (rules, flag_bit)
-
 pub returns-then-not-flags_at-tail : goal.returns-then-not-flags_at-tail
 returns-then-not-flags_at-tail c =
     let passes : let a = c.args in
-    (row_fault a.gap a.row.now ≡ Fine) ↔ (InRange a.row.now × Plain a.gap a.row.now) = plain_iff _ c.requires.gap_bound.0 _ c.requires.gap_bound.1 in
+    (row_fault a.gap a.row.numbers.now ≡ Ok tt) ↔ (InRange a.row.numbers.now × Plain a.gap a.row.numbers.now) = plain_iff _ c.requires _ c.args.row.wide in
     failed (c.flags_at.ensures and c.tail.ensures) (c.if-not-flags_at-tail.true)
     (λ e. let q = (passes.0 e).1 in (q.flags, q.tail))
-
-pub moves_at-requires : goal.moves_at-requires
-moves_at-requires c =
-    record {
-      row_len = search (rules, src_words, src_halves, in_range);
-      caps = search (rules, src_words, src_halves, in_range);
-    }
-
-pub moves_at-requires-2 : goal.moves_at-requires-2
-moves_at-requires-2 c =
-    record {
-      row_len = search (rules, dst_words, dst_halves, in_range);
-      caps = search (rules, dst_words, dst_halves, in_range);
-    }
 
 pub returns-then-not-moves_at : goal.returns-then-not-moves_at
 returns-then-not-moves_at c =
     let passes : let a = c.args in
-    (row_fault a.gap a.row.now ≡ Fine) ↔ (InRange a.row.now × Plain a.gap a.row.now) = plain_iff _ c.requires.gap_bound.0 _ c.requires.gap_bound.1 in
+    (row_fault a.gap a.row.numbers.now ≡ Ok tt) ↔ (InRange a.row.numbers.now × Plain a.gap a.row.numbers.now) = plain_iff _ c.requires _ c.args.row.wide in
     failed (c.moves_at.ensures and c.moves_at-2.ensures) (c.if-not-moves_at.true)
     (λ e. let q = (passes.0 e).1 in (q.src, q.dst))
 
 pub returns : goal.returns
 returns c =
     let passes : let a = c.args in
-    (row_fault a.gap a.row.now ≡ Fine) ↔ (InRange a.row.now × Plain a.gap a.row.now) = plain_iff _ c.requires.gap_bound.0 _ c.requires.gap_bound.1 in
-    let fit = c.requires.caps in
+    (row_fault a.gap a.row.numbers.now ≡ Ok tt) ↔ (InRange a.row.numbers.now × Plain a.gap a.row.numbers.now) = plain_iff _ c.requires _ c.args.row.wide in
+    let fit = c.args.row.caps in
     let front = (c.flags_at.ensures and c.tail.ensures).0 (c.if-not-flags_at-tail.false) in
     let addresses = (c.moves_at.ensures and c.moves_at-2.ensures).0 (c.if-not-moves_at.false) in
     let rest = c.counts_at.ensures and c.results_at.ensures and c.gapped_at.ensures in (

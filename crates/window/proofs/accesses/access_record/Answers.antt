@@ -2,7 +2,7 @@
 use borrow.Author.Rules.{rules}
 use mathlib.Core.Path.{◌≡◌, ◌∙◌}
 use lib.ListN.{length}
-use Rattle.window.proofs.Window.{access_numbers_lem}
+use Rattle.window.proofs.WindowLaws.{access_numbers_lem}
 use Rattle.window.proofs.accesses.access_record.Goals as goal
 
 pub returns : goal.returns
