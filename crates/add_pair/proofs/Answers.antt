@@ -1,11 +1,26 @@
 -- What `add_pair` has to show: of a list that is no operand, and of three operands. Assumes nothing.
-use Rattle.std.proofs.Common.{◌≡◌, true, false, ◌&&◌, List, ℕ, ◌∙◌, ap}
-use Rattle.std.specs.Prelude.{Result}
+use Rattle.std.proofs.Common.{◌≡◌, true, false, ◌&&◌, List, ℕ, ◌∙◌, sym, ap}
+use Rattle.std.specs.Prelude.{Result, Some, None}
 use Rattle.answer.specs.Numbers.{refused}
 use Rattle.operands.specs.declared.AddOperand.{AddOperand}
-use Rattle.add_pair.specs.Flat.{flat_operand}
-use Rattle.add_pair.specs.Answers.{is_operand, operands_answer, add_pair_answer, add_pair_after, add_pair_numbers, pair_numbers_of, out_after, AddPairDone}
+use Rattle.add_pair.specs.Flat.{flat_form, operand_of, flat_operand}
+use Rattle.add_pair.specs.declared.FlatForm.{FlatForm}
+use Rattle.add_pair.specs.Answers.{is_form, is_operand, operands_answer, add_pair_answer, add_pair_after, add_pair_numbers, pair_numbers_of, out_after, AddPairDone}
 use Rattle.add_pair.specs.declared.AddPairRefusal.{AddPairRefusal}
+
+-- a list that has a form is an operand, the one that is read by it
+module _ (l : List ℕ) {form : FlatForm} (e : flat_form l ≡ Some form) where
+  pub formed : is_operand l ≡ true
+  unfolding is_form
+  formed = ap is_form e
+
+  pub read_as : {o : AddOperand} → o ≡ operand_of l (Some form) → o ≡ flat_operand l
+  read_as x = x ∙ ap (operand_of l) (sym e)
+
+-- and one that has none is no operand
+pub formless : (l : List ℕ) → flat_form l ≡ None → is_operand l ≡ false
+unfolding is_form
+formless l e = ap is_form e
 
 module _ (lhs rhs sum conditions row out : List ℕ) where
   pub malformed : (is_operand lhs && is_operand rhs && is_operand sum) ≡ false → AddPairDone lhs rhs sum conditions row out (refused 10 0) out

@@ -1,10 +1,9 @@
 // Reading a flat operand: first its form, by a walk that never leaves the list, then its terms. Every function here is total: what a list
 // does not have reads as 0. Assumes nothing.
-ghost use Rattle.std.specs.Prelude.{◌≡◌, true, false, Some, MatchOption};
+ghost use Rattle.std.specs.Prelude.{◌≡◌, Some};
 ghost use Rattle.operands.specs.Constructors.{dword};
 ghost use Rattle.add_pair.specs.Flat.{after_term, after_terms, after_sum, is_end, sums_form, flat_form};
-ghost use Rattle.add_pair.specs.Flat.{signed_of, term_from, term_of, four_terms, operand_of, flat_operand};
-ghost use Rattle.add_pair.specs.Answers.{is_operand};
+ghost use Rattle.add_pair.specs.Flat.{signed_of, term_from, term_of, four_terms, operand_of};
 
 use crate::FlatForm;
 use lists::slices::number;
@@ -79,7 +78,7 @@ fn sums_form(list: &[u64], i: usize) -> Option<FlatForm>
 
 // What a list is.
 #[tactic(auto, unfolding(crate::specs::Flat::flat_form, crate::specs::Flat::sums_form))]
-fn flat_form(list: &[u64]) -> Option<FlatForm>
+pub fn flat_form(list: &[u64]) -> Option<FlatForm>
     ensures { result ≡ flat_form list.now }
 {
     let tag = number(list, 0);
@@ -159,7 +158,7 @@ fn words_operand(column: usize) -> AddOperand
 
 // The operand of a list, by the list's form.
 #[tactic(auto, unfolding(crate::specs::Flat::operand_of))]
-fn operand_of(list: &[u64], form: FlatForm) -> AddOperand
+pub fn operand_of(list: &[u64], form: FlatForm) -> AddOperand
     ensures { result ≡ operand_of list.now (Some form) }
 {
     match form {
@@ -173,14 +172,4 @@ fn operand_of(list: &[u64], form: FlatForm) -> AddOperand
             high: four_terms(list, start, high),
         },
     }
-}
-
-// The operand of a list that is one.
-#[tactic(auto, unfolding(crate::specs::Answers::is_form))]
-pub fn flat_operand(list: &[u64]) -> Option<AddOperand>
-    ensures { MatchOption result (is_operand list.now ≡ false)
-        (λ o. (is_operand list.now ≡ true) × (o ≡ flat_operand list.now)) }
-{
-    let form = flat_form(list)?;
-    Some(operand_of(list, form))
 }

@@ -4,14 +4,14 @@
 
 mod flat;
 
-ghost use Rattle.std.specs.Prelude.{◌≡◌, true, false, MatchResult};
-ghost use Rattle.add_pair.specs.Flat.{flat_operand};
-ghost use Rattle.add_pair.specs.Answers.{is_operand, operands_answer, pair_numbers_of, out_after, add_pair_refusal_numbers, add_pair_numbers, AddPairDone};
+ghost use Rattle.std.specs.Prelude.{◌≡◌, Some, None, MatchResult};
+ghost use Rattle.add_pair.specs.Flat.{flat_form};
+ghost use Rattle.add_pair.specs.Answers.{operands_answer, pair_numbers_of, out_after, add_pair_refusal_numbers, add_pair_numbers, AddPairDone};
 ghost use Rattle.add_pair.specs.declared.AddPairRefusal.TheVariants.{Malformed, Row};
 
 use answer::{Answer, refuse};
 use field::rows::RowRefusal;
-use flat::flat_operand;
+use flat::{flat_form, operand_of};
 use operands::AddOperand;
 use operands::judge::pair_row;
 use operands::value::pair_values;
@@ -52,12 +52,12 @@ impl From<AddPairRefusal> for Answer {
     }
 }
 
-// The operand of a flat list, or 10.
-fn operand(list: &[u64]) -> Result<AddOperand, AddPairRefusal>
-    ensures { MatchResult result (λ o. (is_operand list.now ≡ true) × (o ≡ flat_operand list.now))
-        (λ why. (is_operand list.now ≡ false) × (why ≡ Malformed)) }
+// The form of a flat list, or 10.
+fn form(list: &[u64]) -> Result<FlatForm, AddPairRefusal>
+    ensures { MatchResult result (λ form. flat_form list.now ≡ Some form)
+        (λ why. (flat_form list.now ≡ None) × (why ≡ Malformed)) }
 {
-    flat_operand(list).ok_or(AddPairRefusal::Malformed)
+    flat_form(list).ok_or(AddPairRefusal::Malformed)
 }
 
 // The two residues and the high carry of lhs + rhs = sum, for operands that were read.
@@ -92,10 +92,18 @@ pub fn add_pair(
     ensures { AddPairDone lhs.now rhs.now sum.now conditions.now row.now
         out.old (add_pair_numbers result) out.new }
 {
-    let lhs = operand(lhs)?;
-    let rhs = operand(rhs)?;
-    let sum = operand(sum)?;
-    operands_pair(lhs, rhs, sum, conditions, row, out)
+    // no operand is read before all three lists are known to be one
+    let lhs_form = form(lhs)?;
+    let rhs_form = form(rhs)?;
+    let sum_form = form(sum)?;
+    operands_pair(
+        operand_of(lhs, lhs_form),
+        operand_of(rhs, rhs_form),
+        operand_of(sum, sum_form),
+        conditions,
+        row,
+        out,
+    )
 }
 
 // Document 01's number, place and value of an answer.

@@ -4,14 +4,14 @@
 ghost use Rattle.std.specs.Prelude.{◌≡◌, ◌+◌, ◌<◌};
 ghost use Rattle.lists.specs.Lists.{at};
 ghost use Rattle.field.specs.Field.{bit_p};
-ghost use Rattle.copy_row.specs.Columns.{COLUMNS};
-ghost use Rattle.copy_residues.specs.Residues.{incr_high, implies_mu, one_hot, first_write, gated_bit, dst_res_non_write, single_lane};
+ghost use Rattle.copy_row.specs.Columns.{IS_SET, IS_WRITE, COLUMNS};
+ghost use Rattle.copy_residues.specs.Residues.{res_low, res_high, gap_low, gap_high, incr_high, implies_mu, one_hot, first_write, gated_bit, dst_res_non_write, single_lane};
 ghost use Rattle.copy_residues.specs.Residues.{borrow_implies, borrow_implies_zero, end_implies, mu_com_is, mu_com_wide_is, no_wrap, gap_no_wrap};
 
 use crate::parts::Parts;
 use crate::{CopyRow, carries};
 use copy_row::cols;
-use field::element::{Element, ONE};
+use field::element::{Element, ONE, ZERO};
 
 // range_first, range_end, range_single, range_mu, range_is_set, range_is_write: column c is a bit. Without it a flag could be any element
 // and weigh an access by it.
@@ -48,15 +48,52 @@ pub fn first_write(row: CopyRow) -> Element
     row.cell(cols::FIRST_WRITE) - row.cell(cols::FIRST) * row.cell(cols::IS_WRITE)
 }
 
-// dst_res_is_write: on a Write DST_RES is DST + COUNT, word by word. Without them a Write could hand back any commit index. set_gap: on a
-// Set DST is SRC + gap, word by word. Without them a Set could copy a cell onto itself and put any bytes there. The gate stands in column
-// c, and x is the carry.
-#[tactic(auto, unfolding(crate::specs::Residues::gated_bit))]
-pub fn gated_bit(row: CopyRow, c: usize, x: Element) -> Element
-    requires { c < COLUMNS }
-    ensures { result.value ≡ gated_bit row.entry.numbers.now c x.value }
+// dst_res_is_write: on a Write DST_RES is DST + COUNT, word by word. Without them a Write could hand back any commit index. On a row that is
+// none the carry is not worked out: what it is made of is bound there by no other equation, and it takes products.
+#[tactic(auto, using(field::proofs::Laws::zero_mul_p), unfolding(crate::specs::Residues::gated_bit))]
+pub fn dst_res_low(row: CopyRow) -> Element
+    ensures { result.value ≡ gated_bit row.entry.numbers.now IS_WRITE (res_low row.entry.numbers.now) }
 {
-    row.cell(c) * x.is_bit()
+    let write = row.cell(cols::IS_WRITE);
+    if write.value == 0 {
+        return ZERO;
+    }
+    write * carries::res_low(row).is_bit()
+}
+
+#[tactic(auto, using(field::proofs::Laws::zero_mul_p), unfolding(crate::specs::Residues::gated_bit))]
+pub fn dst_res_high(row: CopyRow) -> Element
+    ensures { result.value ≡ gated_bit row.entry.numbers.now IS_WRITE (res_high row.entry.numbers.now) }
+{
+    let write = row.cell(cols::IS_WRITE);
+    if write.value == 0 {
+        return ZERO;
+    }
+    write * carries::res_high(row).is_bit()
+}
+
+// set_gap: on a Set DST is SRC + gap, word by word. Without them a Set could copy a cell onto itself and put any bytes there. On a row that
+// is none the carry is not worked out either.
+#[tactic(auto, using(field::proofs::Laws::zero_mul_p), unfolding(crate::specs::Residues::gated_bit))]
+pub fn set_gap_low(gap: Element, row: CopyRow) -> Element
+    ensures { result.value ≡ gated_bit row.entry.numbers.now IS_SET (gap_low gap.value row.entry.numbers.now) }
+{
+    let set = row.cell(cols::IS_SET);
+    if set.value == 0 {
+        return ZERO;
+    }
+    set * carries::gap_low(gap, row).is_bit()
+}
+
+#[tactic(auto, using(field::proofs::Laws::zero_mul_p), unfolding(crate::specs::Residues::gated_bit))]
+pub fn set_gap_high(gap: Element, row: CopyRow) -> Element
+    ensures { result.value ≡ gated_bit row.entry.numbers.now IS_SET (gap_high gap.value row.entry.numbers.now) }
+{
+    let set = row.cell(cols::IS_SET);
+    if set.value == 0 {
+        return ZERO;
+    }
+    set * carries::gap_high(gap, row).is_bit()
 }
 
 // dst_res_non_write: DST_RES is DST on a row that is no Write, w 0 for the low word, 1 for the high one. Without it a Copy or a Set could
@@ -135,9 +172,13 @@ pub fn no_wrap(parts: Parts, c: usize, high: Element) -> Element
 }
 
 // The sum of SRC and the gap does not pass 2^64 on a Set. Without it a Set of single bytes could run from the last addresses to the first.
-#[tactic(auto, unfolding(crate::specs::Residues::gap_no_wrap))]
+#[tactic(auto, using(field::proofs::Laws::zero_mul_p), unfolding(crate::specs::Residues::gap_no_wrap))]
 pub fn gap_no_wrap(gap: Element, row: CopyRow) -> Element
     ensures { result.value ≡ gap_no_wrap gap.value row.entry.numbers.now }
 {
-    row.cell(cols::IS_SET) * carries::gap_high(gap, row)
+    let set = row.cell(cols::IS_SET);
+    if set.value == 0 {
+        return ZERO;
+    }
+    set * carries::gap_high(gap, row)
 }

@@ -2,8 +2,8 @@
 ghost use Rattle.std.specs.Prelude.{◌≡◌, ◌<◌};
 ghost use Rattle.copy_residues.specs.Residues.{residue, RESIDUES};
 
+use crate::equations;
 use crate::parts::Parts;
-use crate::{carries, equations};
 use copy_row::cols;
 use field::element::Element;
 
@@ -37,12 +37,12 @@ pub fn residue_with(parts: Parts, i: u64) -> Element
         // count_borrows: COUNT_DECR + step is COUNT, but for multiples of 2^64. Without them the count could fall by anything.
         14 => parts.count_low.is_bit(),
         15 => parts.borrowed.is_bit(),
-        16 => equations::gated_bit(row, cols::IS_WRITE, carries::res_low(row)),
-        17 => equations::gated_bit(row, cols::IS_WRITE, carries::res_high(row)),
+        16 => equations::dst_res_low(row),
+        17 => equations::dst_res_high(row),
         18 => equations::dst_res_non_write(row, 0),
         19 => equations::dst_res_non_write(row, 1),
-        20 => equations::gated_bit(row, cols::IS_SET, carries::gap_low(parts.gap, row)),
-        21 => equations::gated_bit(row, cols::IS_SET, carries::gap_high(parts.gap, row)),
+        20 => equations::set_gap_low(parts.gap, row),
+        21 => equations::set_gap_high(parts.gap, row),
         22..=28 => equations::single_lane(row, (i - 19) as usize),
         29 => equations::borrow_implies(parts, cols::FIRST),
         30 => equations::borrow_implies_zero(parts, cols::COUNT_0),

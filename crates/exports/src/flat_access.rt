@@ -28,7 +28,6 @@ pub fn push_reg_access(
         (pushed (built reg_addr (val0 ∷ val1 ∷ []) (old0 ∷ old1 ∷ []) timestamp old_timestamp (eqb is_read 1)))
         «record».old result «record».new }
 {
-    let lent = *record;
     if 1 < is_read {
         return refuse(10, 0);
     }
@@ -42,31 +41,22 @@ pub fn push_reg_access(
     );
     match access.answer {
         Ok(route) => {
-            *record = written_over(route, access.written, lent);
+            write_over(route, &access.written, record);
             accept(route_number(route))
         }
         Err(why) => why.into(),
     }
 }
 
-// The record of a route, over what was lent: the register table's has 8 numbers, the others 29.
+// Writes the record of a route over what is lent: the register table's has 8 numbers, and the others stay; else all 29.
 #[tactic(auto, unfolding(crate::specs::FlatAccess::record_over))]
-fn written_over(route: AccessRoute, list: [u64; 29], before: [u64; 29]) -> [u64; 29]
-    ensures { result ≡ record_over (route_number (memw_route route)) list before }
+fn write_over(route: AccessRoute, written: &[u64; 29], lent: &mut [u64; 29])
+    ensures { lent.new ≡ record_over (route_number (memw_route route)) written.now lent.old }
 {
     match route {
-        AccessRoute::Register { .. } => register_front(list, before),
-        AccessRoute::Aligned | AccessRoute::General => list,
+        AccessRoute::Register { .. } => put_front(lent, written),
+        AccessRoute::Aligned | AccessRoute::General => *lent = *written,
     }
-}
-
-// The register table's 8 numbers, and the others as they were.
-fn register_front(list: [u64; 29], before: [u64; 29]) -> [u64; 29]
-    ensures { result ≡ take REGISTER_WIDTH list ++ drop REGISTER_WIDTH before }
-{
-    let mut after = before;
-    put_front(&mut after, &list);
-    after
 }
 
 fn put_front(after: &mut [u64], list: &[u64])

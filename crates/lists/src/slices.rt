@@ -8,7 +8,9 @@ pub fn put(dst: &mut [u64], src: &[u64])
     requires { length dst.old ≡ length src.now }
     ensures { dst.new ≡ src.now }
 {
-    dst.copy_from_slice(src);
+    for i in 0..dst.len() {
+        dst[i] = src[i];
+    }
 }
 
 // Stores `part` into `list` from index `at` on.

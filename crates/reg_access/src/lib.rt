@@ -13,8 +13,8 @@ ghost use Rattle.reg_access.specs.RegAccess.{built, route_of, with_zeros, pushed
 
 use access::{AccessTable, register_access};
 use answer::{Answer, refuse};
-use classify::AccessRoute;
 use classify::route::{address_fits, delta_less_one, reg_ts_delta_in_range};
+use classify::{AccessNumbers, AccessRoute};
 
 // Document 01's refusal 11: the route leads to the register table, where the address has no place.
 #[derive(Clone, Copy)]
@@ -26,6 +26,13 @@ impl From<BadAddress> for Answer {
     fn from(_why: BadAddress) -> Answer {
         refuse(11, 0)
     }
+}
+
+// Document 01's number, place and value of an answer, and the number that its route carries.
+pub fn numbers(found: Result<AccessRoute, BadAddress>) -> AccessNumbers
+    ensures { result ≡ push_numbers found }
+{
+    classify::numbers(found)
 }
 
 // The route, and the record as the route's list has it: 8 numbers and zeros for the register table, else 29; zeros if refused.

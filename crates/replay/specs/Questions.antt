@@ -1,5 +1,5 @@
 -- How a list stands among the recorded numbers: its length, and then its numbers. Assumes nothing.
-use Rattle.std.specs.Prelude.{ℕ, List, [], ◌∷◌, take, drop}
+use Rattle.std.specs.Prelude.{ℕ, ◌≡◌, ◌-◌, List, [], ◌∷◌, length, take, drop}
 
 -- The list that numbers begin with: all that are left where they are too few.
 abbrev pub first_list : List ℕ → List ℕ
@@ -10,3 +10,7 @@ first_list (size ∷ follow) = take size follow
 abbrev pub after_list : List ℕ → List ℕ
 after_list [] = []
 after_list (size ∷ follow) = drop size follow
+
+-- What reading leaves of the numbers: their end, so that nothing else is put in their place.
+pub record IsEnd (before after : List ℕ) : Type 0 where
+  pub end : after ≡ drop (length before - length after) before

@@ -3,9 +3,9 @@
 // Assumes nothing but what each `requires` says.
 #![tactic(auto)]
 
-ghost use Rattle.std.specs.Prelude.{ℕ, ◌≡◌, ◌<◌, ◌%◌, min, [], ◌∷◌, ◌++◌, ◌↔◌, length, IsNone, MatchOption, IfNone, IfSome};
+ghost use Rattle.std.specs.Prelude.{ℕ, ◌≡◌, ◌<◌, ◌+◌, ◌%◌, min, [], ◌∷◌, ◌++◌, ◌↔◌, length, IsNone, MatchOption, IfNone, IfSome};
 ghost use Rattle.io.specs.Counts.{IsPrefixLen};
-ghost use Rattle.replay.specs.Questions.{first_list, after_list};
+ghost use Rattle.replay.specs.Questions.{first_list, after_list, IsEnd};
 
 use answer::Answer;
 
@@ -20,6 +20,8 @@ impl<'a> Questions<'a> {
     pub fn number(&mut self) -> Option<u64>
         ensures read { MatchOption result (self.old.rest.now ≡ []) (λ n. self.old.rest.now ≡ n ∷ self.new.rest.now) }
         ensures none { IfNone result (self.new.rest.now ≡ self.old.rest.now) }
+        ensures end { IsEnd self.old.rest.now self.new.rest.now }
+        ensures fewer { IfSome result (λ _. length self.new.rest.now < length self.old.rest.now) }
     {
         let (first, rest) = self.rest.split_first()?;
         self.rest = rest;
@@ -30,6 +32,8 @@ impl<'a> Questions<'a> {
     pub fn numbers<const N: usize>(&mut self) -> Option<[u64; N]>
         ensures read { MatchOption result (length self.old.rest.now < N) (λ numbers. self.old.rest.now ≡ numbers ++ self.new.rest.now) }
         ensures none { IfNone result (self.new.rest.now ≡ self.old.rest.now) }
+        ensures end { IsEnd self.old.rest.now self.new.rest.now }
+        ensures fewer { IfSome result (λ _. length self.new.rest.now + N ≡ length self.old.rest.now) }
     {
         let (first, rest) = self.rest.split_first_chunk::<N>()?;
         self.rest = rest;
@@ -41,6 +45,8 @@ impl<'a> Questions<'a> {
         ensures read { IfSome result (λ list. list.now ≡ first_list self.old.rest.now) }
         ensures left { self.new.rest.now ≡ after_list self.old.rest.now }
         ensures none { IsNone result ↔ (self.old.rest.now ≡ []) }
+        ensures end { IsEnd self.old.rest.now self.new.rest.now }
+        ensures fewer { IfSome result (λ _. length self.new.rest.now < length self.old.rest.now) }
     {
         let size = self.number()?;
         let left = self.rest.len() as u64;
@@ -53,6 +59,8 @@ impl<'a> Questions<'a> {
     pub fn array<const N: usize>(&mut self) -> Option<[u64; N]>
         ensures left { self.new.rest.now ≡ after_list self.old.rest.now }
         ensures none { IsNone result ↔ (self.old.rest.now ≡ []) }
+        ensures end { IsEnd self.old.rest.now self.new.rest.now }
+        ensures fewer { IfSome result (λ _. length self.new.rest.now < length self.old.rest.now) }
     {
         let list = self.list()?;
         let mut array = [0; N];

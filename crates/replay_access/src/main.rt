@@ -1,12 +1,18 @@
 // Replays recorded questions on the access tables through the exported functions. A question is the function's number and its parameters, a
 // list as its length and its numbers; the answer's three numbers are printed, then each lent list afterwards. The file stdout has the
 // oracle's answers.
-#![tactic(auto)]
+#![tactic(auto, using(replay::proofs::Ends::end_then))]
+
+ghost use Rattle.std.specs.Prelude.{◌<◌, length, IfSome};
+ghost use Rattle.replay.specs.Questions.{IsEnd};
 
 use replay::Questions;
 
 // A maker, by the function's number, or the lookups: the records, the table or the pairs.
-fn ask_table(function: u64, questions: &mut Questions) -> Option<()> {
+fn ask_table(function: u64, questions: &mut Questions) -> Option<()>
+    ensures end { IsEnd questions.old.rest.now questions.new.rest.now }
+    ensures fewer { IfSome result (λ _. length questions.new.rest.now < length questions.old.rest.now) }
+{
     let records = questions.list()?;
     let mut buffer = [0u64; 1024];
     let table = replay::load(questions.list()?, &mut buffer);
@@ -21,7 +27,10 @@ fn ask_table(function: u64, questions: &mut Questions) -> Option<()> {
 }
 
 // A residue, by the function's number: the row, the residue's number.
-fn ask_residue(function: u64, questions: &mut Questions) -> Option<()> {
+fn ask_residue(function: u64, questions: &mut Questions) -> Option<()>
+    ensures end { IsEnd questions.old.rest.now questions.new.rest.now }
+    ensures fewer { IfSome result (λ _. length questions.new.rest.now < length questions.old.rest.now) }
+{
     let row = questions.list()?;
     let number = questions.number()?;
     replay::print_answer(match function {
@@ -33,7 +42,10 @@ fn ask_residue(function: u64, questions: &mut Questions) -> Option<()> {
 }
 
 // route_accesses: the access records, the three lists, the counts.
-fn ask_route(questions: &mut Questions) -> Option<()> {
+fn ask_route(questions: &mut Questions) -> Option<()>
+    ensures end { IsEnd questions.old.rest.now questions.new.rest.now }
+    ensures fewer { IfSome result (λ _. length questions.new.rest.now < length questions.old.rest.now) }
+{
     let accesses = questions.list()?;
     let mut first = [0u64; 512];
     let register = replay::load(questions.list()?, &mut first);
@@ -61,7 +73,10 @@ fn word(x: u64) -> u32 {
 }
 
 // push_reg_access: eight numbers, the record.
-fn ask_push(questions: &mut Questions) -> Option<()> {
+fn ask_push(questions: &mut Questions) -> Option<()>
+    ensures end { IsEnd questions.old.rest.now questions.new.rest.now }
+    ensures fewer { IfSome result (λ _. length questions.new.rest.now < length questions.old.rest.now) }
+{
     let [reg_addr, val0, val1, old0, old1, stamp, old_stamp, is_read] = questions.numbers::<8>()?;
     let mut record = questions.array()?;
     replay::print_answer(exports::flat_access::push_reg_access(
@@ -80,7 +95,10 @@ fn ask_push(questions: &mut Questions) -> Option<()> {
 }
 
 // new_register_state: the entry point, the stack top, the state.
-fn ask_start(questions: &mut Questions) -> Option<()> {
+fn ask_start(questions: &mut Questions) -> Option<()>
+    ensures end { IsEnd questions.old.rest.now questions.new.rest.now }
+    ensures fewer { IfSome result (λ _. length questions.new.rest.now < length questions.old.rest.now) }
+{
     let [entry_point, stack_top] = questions.numbers::<2>()?;
     let mut state = questions.array()?;
     replay::print_answer(exports::flat_registers::new_register_state(
@@ -93,7 +111,10 @@ fn ask_start(questions: &mut Questions) -> Option<()> {
 }
 
 // collect_copy_register_ops: the call, the state, the records.
-fn ask_step(questions: &mut Questions) -> Option<()> {
+fn ask_step(questions: &mut Questions) -> Option<()>
+    ensures end { IsEnd questions.old.rest.now questions.new.rest.now }
+    ensures fewer { IfSome result (λ _. length questions.new.rest.now < length questions.old.rest.now) }
+{
     let [kind, stamp, src, dst, count] = questions.numbers::<5>()?;
     let mut state = questions.array()?;
     let mut records = questions.array()?;
@@ -113,7 +134,10 @@ fn ask_step(questions: &mut Questions) -> Option<()> {
 
 // One question: 0 to 2 the makers of the general, aligned and register table, 3 to 5 their residues, 6 route_accesses, 7
 // push_reg_access, 8 new_register_state, 9 collect_copy_register_ops, 10 register_lookups.
-fn ask(questions: &mut Questions) -> Option<()> {
+fn ask(questions: &mut Questions) -> Option<()>
+    ensures end { IsEnd questions.old.rest.now questions.new.rest.now }
+    ensures fewer { IfSome result (λ _. length questions.new.rest.now < length questions.old.rest.now) }
+{
     match questions.number()? {
         function @ 3..=5 => ask_residue(function, questions),
         6 => ask_route(questions),

@@ -2,7 +2,10 @@
 // parameters, a list as its length and its numbers; the answer's three numbers are printed, then each lent list afterwards. A window past the
 // first edges is not written out: its cells are numbered, and those that a call changed are printed last. The file stdout has the oracle's
 // answers.
-#![tactic(auto)]
+#![tactic(auto, using(replay::proofs::Ends::end_then))]
+
+ghost use Rattle.std.specs.Prelude.{◌<◌, length, IfSome};
+ghost use Rattle.replay.specs.Questions.{IsEnd};
 
 use answer::Answer;
 use replay::Questions;
@@ -22,7 +25,10 @@ fn answer_of(
 }
 
 // collect_copy_ops: kind, timestamp, src, dst, count, gap, then bytes, stamps, operation records, access records and counts.
-fn ask_expansion(questions: &mut Questions) -> Option<()> {
+fn ask_expansion(questions: &mut Questions) -> Option<()>
+    ensures end { IsEnd questions.old.rest.now questions.new.rest.now }
+    ensures fewer { IfSome result (λ _. length questions.new.rest.now < length questions.old.rest.now) }
+{
     let call = questions.numbers()?;
     let mut first = [0u8; 512];
     let bytes = replay::load(questions.list()?, &mut first);
@@ -86,7 +92,10 @@ fn expand_numbered(call: [u64; 6], cells: u64, ops: &mut [u64], accesses: &mut [
 }
 
 // collect_copy_ops over numbered cells: kind, timestamp, src, dst, count, gap and the number of cells, then operation and access records.
-fn ask_numbered(questions: &mut Questions) -> Option<()> {
+fn ask_numbered(questions: &mut Questions) -> Option<()>
+    ensures end { IsEnd questions.old.rest.now questions.new.rest.now }
+    ensures fewer { IfSome result (λ _. length questions.new.rest.now < length questions.old.rest.now) }
+{
     let call = questions.numbers()?;
     let cells = questions.number()?;
     let mut first = [0u64; 512];
@@ -98,7 +107,10 @@ fn ask_numbered(questions: &mut Questions) -> Option<()> {
 }
 
 // generate_load: s, the number of calls, then the list that is lent.
-fn ask_load(questions: &mut Questions) -> Option<()> {
+fn ask_load(questions: &mut Questions) -> Option<()>
+    ensures end { IsEnd questions.old.rest.now questions.new.rest.now }
+    ensures fewer { IfSome result (λ _. length questions.new.rest.now < length questions.old.rest.now) }
+{
     let [s, calls] = questions.numbers::<2>()?;
     let mut buffer = [0u64; 512];
     let out = replay::load(questions.list()?, &mut buffer);
@@ -108,7 +120,10 @@ fn ask_load(questions: &mut Questions) -> Option<()> {
 }
 
 // join_calls: the two lists, then the list that is lent.
-fn ask_join(questions: &mut Questions) -> Option<()> {
+fn ask_join(questions: &mut Questions) -> Option<()>
+    ensures end { IsEnd questions.old.rest.now questions.new.rest.now }
+    ensures fewer { IfSome result (λ _. length questions.new.rest.now < length questions.old.rest.now) }
+{
     let first = questions.list()?;
     let second = questions.list()?;
     let mut buffer = [0u64; 512];
@@ -119,7 +134,10 @@ fn ask_join(questions: &mut Questions) -> Option<()> {
 }
 
 // One question: 0 collect_copy_ops, 1 generate_load, 2 collect_copy_ops over numbered cells, 3 join_calls.
-fn ask(questions: &mut Questions) -> Option<()> {
+fn ask(questions: &mut Questions) -> Option<()>
+    ensures end { IsEnd questions.old.rest.now questions.new.rest.now }
+    ensures fewer { IfSome result (λ _. length questions.new.rest.now < length questions.old.rest.now) }
+{
     match questions.number()? {
         0 => ask_expansion(questions),
         1 => ask_load(questions),

@@ -1,7 +1,10 @@
 // Replays recorded questions through `round_trip::round_trip`. A question is 0, the gap, then the calls and the seven lent lists, each as
 // its length and its numbers; the answer's number, place and value are printed, the rows and calls as a list of two, then each lent list
 // afterwards. The file stdout has what the oracle's steps give, one after the other.
-#![tactic(auto)]
+#![tactic(auto, using(replay::proofs::Ends::end_then))]
+
+ghost use Rattle.std.specs.Prelude.{◌<◌, length, IfSome};
+ghost use Rattle.replay.specs.Questions.{IsEnd};
 
 use answer::Answer;
 use replay::Questions;
@@ -20,7 +23,10 @@ fn print_outcome(outcome: Result<RoundTripped, RoundTripRefusal>) {
 }
 
 // The gap, the calls, then the seven lists that are lent.
-fn ask(questions: &mut Questions) -> Option<()> {
+fn ask(questions: &mut Questions) -> Option<()>
+    ensures end { IsEnd questions.old.rest.now questions.new.rest.now }
+    ensures fewer { IfSome result (λ _. length questions.new.rest.now < length questions.old.rest.now) }
+{
     let [_, gap] = questions.numbers::<2>()?;
     let calls = questions.list()?;
     let mut first = [0u8; 512];

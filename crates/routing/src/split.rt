@@ -144,10 +144,12 @@ fn put_access(
     if to_register {
         let record = register_record(op);
         slices::put_at(register, REGISTER_WIDTH * ends.register, &record);
-    } else if to_aligned {
-        slices::put_at(aligned, ACCESS_WIDTH * ends.aligned, &op[0..ACCESS_WIDTH]);
-    } else {
-        slices::put_at(general, ACCESS_WIDTH * ends.general, &op[0..ACCESS_WIDTH]);
+        return one_more(to_register, to_aligned, ends);
     }
+    if to_aligned {
+        slices::put_at(aligned, ACCESS_WIDTH * ends.aligned, &op[0..ACCESS_WIDTH]);
+        return one_more(to_register, to_aligned, ends);
+    }
+    slices::put_at(general, ACCESS_WIDTH * ends.general, &op[0..ACCESS_WIDTH]);
     one_more(to_register, to_aligned, ends)
 }

@@ -34,7 +34,7 @@ returns-in-Ok c =
     let number = c.accept.ensures ∙ ap accepted c.route_number.ensures in
     push_taken c.args.is_read access lent _ (number ∙ ap (λ (n : AccessNumbers). n.answer) told ∙ pushed_answer c.args.is_read access lent flag)
     _ number _
-    (c.written_over.ensures ∙ ap (λ (w : List ℕ). record_over (route_number (memw_route c.in-Ok.route)) w lent) c.push_reg_access-access.ensures.written)
+    (c.write_over.ensures ∙ ap (λ (w : List ℕ). record_over (route_number (memw_route c.in-Ok.route)) w lent) c.push_reg_access-access.ensures.written)
 
 pub returns-in-Err : goal.returns-in-Err
 returns-in-Err c =
